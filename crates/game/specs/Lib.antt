@@ -1,0 +1,14 @@
+pub mod Limits
+pub mod Sets
+pub mod SetLaws
+pub mod Game
+pub mod Outcome
+pub mod Stored
+pub mod Command
+pub mod Questions
+pub mod Position
+pub mod Win
+pub mod ListLaws
+pub mod StoredLaws
+pub mod GoodGame
+pub mod Reads

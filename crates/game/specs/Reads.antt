@@ -1,0 +1,370 @@
+-- The theorem that a game that was read is good, by the walk: each command that passes 3 to 7 keeps what holds so far.
+use Prim.Native.Nat.{ℕ, zero, suc, _+_, _-_, _/_, _%_, _^_, _<_, _≤_}
+use mathlib.Core.Path.{_≡_, refl, sym, ap, subst, _∙_}
+use mathlib.Core.Logic.{_⊎_, inl, inr, ⊎-elim}
+use mathlib.Core.Bool.{Bool, true, false, cond, not, _&&_, _||_}
+use mathlib.Core.List.{List, [], _∷_, _++_, List·Memᴰ, List·Memᴰ·head, List·Memᴰ·tail, List·Memᴰ·not-nil, List·Memᴰ·append-cases, List·Memᴰ·eq-of-singleton}
+use native.Mathlib.Omega.{arith}
+use native.Mathlib.Nat.{add-zero, mod-lt}
+use lib.ListN.{length, getD, length-append, List·getD-append}
+use lib.Seq.{getD-append-seam}
+use lib.Dec.{eqb, ltb, leb}
+use lib.Bits.{or-lt}
+use lib.Pow.{pow-lt, pow-pos, split}
+use borrow.Author.Tests.{ltb-true, leb-true, eqb-true, eqb-false, not-true, ne-eqb, eq-eqb, lt-ltb}
+use Rattle.game.specs.Limits.{maxControl, maxStates, maxLetters, maxRules, maxTargets}
+use Rattle.game.specs.Sets.{has, single, union, within}
+use Rattle.game.specs.Game.{Rule, Transition, PushdownGame, emptyGame, wordOf, ofHead, rulesOf, filter}
+use Rattle.game.specs.Outcome.{Outcome, done, refused}
+use Rattle.game.specs.Command.{commandAt}
+use Rattle.game.specs.Questions.{any, allBelow, inOrder, sizesInRange, between, unusedZero, ruleInRange, targetInRange, inRange, bottomKept, keepsBottom, sameRule, sameTarget, isNew, hasRoom, ask, Room, add, everyLetter, everyHead, ending, taken, met, walk, reading}
+use Rattle.game.specs.ListLaws.{decided, last-or-below, and-left, and-right, any-found, all-below-at}
+use Rattle.game.specs.StoredLaws.{noTransition}
+use Rattle.game.specs.GoodGame.{GoodRule, GoodTarget, Numbered, Distinct, Ranged, SoFar, Good}
+use Rattle.game.specs.declared.command.Command.{Command}
+use Rattle.game.specs.declared.command.Command.the-variants.{Sizes, Abelard, Final, Rule as RuleIs, Target, End}
+use Rattle.game.specs.declared.command.Found.{Found}
+use Rattle.game.specs.declared.command.Found.the-variants.{Next, Missing, Unknown}
+
+-- a chain of tests that gives 0 passed its first test
+passed : (b : Bool) (x n : ℕ) → cond b x (suc n) ≡ 0 → (b ≡ true) × (x ≡ 0)
+passed true x n h = (refl, h)
+passed false x n h = absurd (omega arith)
+
+-- the five questions that a command passed
+pub record Passed (g : PushdownGame) (command : Command) : Type 0 where
+  pub order : inOrder (g .states) command ≡ true
+  pub range : inRange (g .control) (g .states) (g .letters) command ≡ true
+  pub bottom : keepsBottom command ≡ true
+  pub new : isNew g command ≡ true
+  pub room : hasRoom (length (g .rules)) (length (g .targets)) command ≡ true
+
+pub asked : (g : PushdownGame) (command : Command) → ask g command ≡ 0 → Passed g command
+unfolding ask
+asked g command h =
+    let a = passed (inOrder (g .states) command) _ 2 h in
+    let b = passed (inRange (g .control) (g .states) (g .letters) command) _ 3 (a .1) in
+    let c = passed (keepsBottom command) _ 4 (b .1) in
+    let d = passed (isNew g command) _ 5 (c .1) in
+    let e = passed (hasRoom (length (g .rules)) (length (g .targets)) command) _ 6 (d .1) in
+    record { order = a .0; range = b .0; bottom = c .0; new = d .0; room = e .0 }
+
+impossible : false ≡ true → ⊥
+impossible h = let z : _≡_ {A = ℕ} 0 1 = cc in omega arith
+
+-- only 01 passes 3 before anything is read
+first : (command : Command) → inOrder 0 command ≡ true → (p s l : ℕ) × (command ≡ Sizes p s l)
+unfolding inOrder
+first (Sizes p s l) h = (p, s, l, refl)
+first (Abelard p) h = absurd (impossible h)
+first (Final q) h = absurd (impossible h)
+first (RuleIs p a q k b c) h = absurd (impossible h)
+first (Target q a set) h = absurd (impossible h)
+first End h = absurd (impossible h)
+
+both : (a b : Bool) → (a && b) ≡ true → (a ≡ true) × (b ≡ true)
+both a b h = (and-left a b h, and-right a b h)
+
+-- the game after an accepted 01
+opened : (p s l : ℕ) → sizesInRange p s l ≡ true → Ranged (add emptyGame (Sizes p s l))
+unfolding sizesInRange add Numbered
+opened p s l h =
+    let f = both _ _ h in
+    let e = both _ _ (f .0) in
+    let d = both _ _ (e .0) in
+    let c = both _ _ (d .0) in
+    let b = both _ _ (c .0) in
+    record {
+      some = leb-true _ _ (b .0);
+      control = ltb-true _ _ (c .1);
+      controls = leb-true _ _ (b .1);
+      states = leb-true _ _ (d .1);
+      bottom = leb-true _ _ (e .1);
+      letters = leb-true _ _ (f .1);
+      abelard = pow-pos p;
+      finals = pow-pos s;
+      rule = λ r m. absurd (List·Memᴰ·not-nil m);
+      numbers = tt;
+      rules = omega arith;
+      target = λ t m. absurd (List·Memᴰ·not-nil m);
+      distinct = λ i j h k e. omega arith;
+      targets = omega arith;
+    }
+
+ruled : (control letters p a q k b c n : ℕ) → ruleInRange control letters p a q k b c ≡ true → bottomKept a (wordOf k b c) ≡ true → GoodRule control letters (record { number = n; from = p; top = a; to = q; count = k; above = b; below = c })
+unfolding ruleInRange
+ruled control letters p a q k b c n h kept =
+    let f = both _ _ h in
+    let e = both _ _ (f .0) in
+    let d = both _ _ (e .0) in
+    let m = both _ _ (d .0) in
+    let t = both _ _ (m .0) in
+    let s = both _ _ (t .0) in
+    record {
+      from = ltb-true _ _ (s .0);
+      top = ltb-true _ _ (s .1);
+      to = ltb-true _ _ (t .1);
+      count = leb-true _ _ (m .1);
+      above = ltb-true _ _ (d .1);
+      below = ltb-true _ _ (e .1);
+      bottom = kept;
+    }
+
+-- a number that is none of the bits from k up is below 2 ^ k
+no-high : (x k : ℕ) → x / 2 ^ k ≡ 0 → x < 2 ^ k
+no-high x k h = let s = split x k in let m = mod-lt x (pow-pos k) in rw (← s, h) (omega arith)
+
+targeted : (control states letters q a s : ℕ) → targetInRange control states letters q a s ≡ true → GoodTarget control states letters (record { state = q; letter = a; set = s })
+unfolding targetInRange within
+targeted control states letters q a s h =
+    let f = both _ _ h in
+    let e = both _ _ (f .0) in
+    let d = both _ _ (e .0) in
+    let w = both _ _ (f .1) in
+    record {
+      state = ltb-true _ _ (d .0);
+      letter = ltb-true _ _ (d .1);
+      filled = let n = eqb-false s 0 (not-true _ (e .1)) in omega arith;
+      small = no-high s states (eqb-true _ _ (w .1));
+      further = eqb-true _ _ (w .0);
+    }
+
+numbered-more : (n : ℕ) (rs : List Rule) (r : Rule) → Numbered n rs → r .number ≡ n + length rs → Numbered n (rs ++ (r ∷ []))
+unfolding Numbered
+numbered-more n [] r h e = (e ∙ add-zero n, tt)
+numbered-more n (x ∷ rs) r h e = (h .0, numbered-more (suc n) rs r (h .1) (omega arith))
+
+-- an element of a list with one more
+one-more : {A : Type 0} {x y : A} (xs : List A) → List·Memᴰ x (xs ++ (y ∷ [])) → List·Memᴰ x xs ⊎ (x ≡ y)
+one-more xs m = ⊎-elim inl (λ n. inr (List·Memᴰ·eq-of-singleton n)) (List·Memᴰ·append-cases xs m)
+
+or-first : (a b : Bool) → (a || b) ≡ false → a ≡ false
+or-first true b h = h
+or-first false b h = refl
+
+or-second : (a b : Bool) → (a || b) ≡ false → b ≡ false
+or-second true b h = absurd (impossible (sym h))
+or-second false b h = h
+
+-- no element of the list passes the test
+none-at : {A : Type 0} (test : A → Bool) (d : A) (xs : List A) → any test xs ≡ false → (k : ℕ) → k < length xs → test (getD xs k d) ≡ false
+unfolding any
+none-at test d [] h k l = absurd (omega arith)
+none-at test d (x ∷ xs) h zero l = or-first (test x) (any test xs) h
+none-at test d (x ∷ xs) h (suc k) l = none-at test d xs (or-second (test x) (any test xs) h) k (omega arith)
+
+same-target : (q a s : ℕ) (t : Transition) → t ≡ record { state = q; letter = a; set = s } → sameTarget q a s t ≡ true
+unfolding sameTarget
+same-target q a s t e = rw (e, eq-eqb q q refl, eq-eqb a a refl, eq-eqb s s refl)
+
+distinct-more : (ts : List Transition) (q a s : ℕ) → Distinct ts → any (sameTarget q a s) ts ≡ false → Distinct (ts ++ (record { state = q; letter = a; set = s } ∷ []))
+distinct-more ts q a s d none i j h l e =
+    let t : Transition = record { state = q; letter = a; set = s } in
+    let n = length-append ts (t ∷ []) in
+    let here : i < length ts = omega arith in
+    let old = List·getD-append ts (t ∷ []) noTransition i here in
+    ⊎-elim
+    (λ (k : j ≡ length ts).
+    impossible
+    (sym (none-at (sameTarget q a s) noTransition ts none i here)
+    ∙ same-target q a s _ (sym old ∙ e ∙ ap (λ (x : ℕ). getD (ts ++ (t ∷ [])) x noTransition) k ∙ getD-append-seam ts t [] noTransition)))
+    (λ (k : j < length ts). d i j h k (sym old ∙ e ∙ List·getD-append ts (t ∷ []) noTransition j k))
+    (last-or-below j (length ts) (omega arith))
+
+-- questions 3 to 7 passed keep the game in range
+grow : (g : PushdownGame) → Ranged g → (command : Command) → Passed g command → Ranged (add g command)
+unfolding add inOrder inRange between keepsBottom isNew hasRoom
+grow g k (Sizes p s l) h = absurd (let e = eqb-true (g .states) 0 (h .order) in let c = k .control in omega arith)
+grow g k (Abelard p) h =
+    record {
+      some = k .some;
+      control = k .control;
+      controls = k .controls;
+      states = k .states;
+      bottom = k .bottom;
+      letters = k .letters;
+      abelard = or-lt (g .control) (g .abelard) (2 ^ p) (k .abelard) (pow-lt (ltb-true p (g .control) (h .range)));
+      finals = k .finals;
+      rule = k .rule;
+      numbers = k .numbers;
+      rules = k .rules;
+      target = k .target;
+      distinct = k .distinct;
+      targets = k .targets;
+    }
+grow g k (Final q) h =
+    record {
+      some = k .some;
+      control = k .control;
+      controls = k .controls;
+      states = k .states;
+      bottom = k .bottom;
+      letters = k .letters;
+      abelard = k .abelard;
+      finals = or-lt (g .states) (g .finals) (2 ^ q) (k .finals) (pow-lt (ltb-true q (g .states) (and-right (leb (g .control) q) (ltb q (g .states)) (h .range))));
+      rule = k .rule;
+      numbers = k .numbers;
+      rules = k .rules;
+      target = k .target;
+      distinct = k .distinct;
+      targets = k .targets;
+    }
+grow g k (RuleIs p a q n b c) h =
+    let r : Rule = record { number = length (g .rules); from = p; top = a; to = q; count = n; above = b; below = c } in
+    let new : GoodRule (g .control) (g .letters) r = ruled (g .control) (g .letters) p a q n b c (length (g .rules)) (h .range) (h .bottom) in
+    record {
+      some = k .some;
+      control = k .control;
+      controls = k .controls;
+      states = k .states;
+      bottom = k .bottom;
+      letters = k .letters;
+      abelard = k .abelard;
+      finals = k .finals;
+      rule = λ x m. ⊎-elim (k .rule x) (λ (e : x ≡ r). rw e new) (one-more (g .rules) m);
+      numbers = numbered-more 0 (g .rules) r (k .numbers) (omega arith);
+      rules = omega (arith, length-append (g .rules) (r ∷ []), ltb-true (length (g .rules)) maxRules (h .room));
+      target = k .target;
+      distinct = k .distinct;
+      targets = k .targets;
+    }
+grow g k (Target q a s) h =
+    let t : Transition = record { state = q; letter = a; set = s } in
+    let new : GoodTarget (g .control) (g .states) (g .letters) t = targeted (g .control) (g .states) (g .letters) q a s (h .range) in
+    record {
+      some = k .some;
+      control = k .control;
+      controls = k .controls;
+      states = k .states;
+      bottom = k .bottom;
+      letters = k .letters;
+      abelard = k .abelard;
+      finals = k .finals;
+      rule = k .rule;
+      numbers = k .numbers;
+      rules = k .rules;
+      target = λ x m. ⊎-elim (k .target x) (λ (e : x ≡ t). rw e new) (one-more (g .targets) m);
+      distinct = distinct-more (g .targets) q a s (k .distinct) (not-true _ (h .new));
+      targets = omega (arith, length-append (g .targets) (t ∷ []), ltb-true (length (g .targets)) maxTargets (h .room));
+    }
+grow g k End h = k
+
+-- a command that passes 3 to 7 keeps what holds so far
+pub so-far : (g : PushdownGame) → SoFar g → (command : Command) → ask g command ≡ 0 → SoFar (add g command)
+so-far g k command h =
+    let q = asked g command h in
+    ⊎-elim
+    (λ (e : g ≡ emptyGame).
+    let f = first command (rw e at (q .order)) in
+    inr
+    (rw (e, f .3)
+    (opened (f .0) (f .1) (f .2) (unfold inRange in (rw (f .3) at (q .range))))))
+    (λ (r : Ranged g). inr (grow g r command q))
+    k
+
+-- the limits that hold so far
+pub limits : (g : PushdownGame) → SoFar g → (g .control ≤ maxStates) × (g .states ≤ maxStates) × (length (g .rules) ≤ maxRules) × (length (g .targets) ≤ maxTargets)
+limits g k =
+    ⊎-elim
+    (λ (e : g ≡ emptyGame). rw e (omega arith))
+    (λ (r : Ranged g). (omega (arith, r .controls), r .states, r .rules, r .targets))
+    k
+
+roomy : (g : PushdownGame) → SoFar g → (command : Command) → Passed g command → Room (length (g .rules)) (length (g .targets)) command
+unfolding inRange between hasRoom
+roomy g k (Sizes p s l) h = tt
+roomy g k (Abelard p) h = omega (arith, limits g k, ltb-true p (g .control) (h .range))
+roomy g k (Final q) h = omega (arith, limits g k, ltb-true q (g .states) (and-right (leb (g .control) q) (ltb q (g .states)) (h .range)))
+roomy g k (RuleIs p a q n b c) h = ltb-true _ _ (h .room)
+roomy g k (Target q a s) h = ltb-true _ _ (h .room)
+roomy g k End h = tt
+
+-- what the code needs of a command that passed
+pub room : (g : PushdownGame) → SoFar g → (command : Command) → ask g command ≡ 0 → Room (length (g .rules)) (length (g .targets)) command
+room g k command h = roomy g k command (asked g command h)
+
+-- a rule that passes a test is among those that the filter keeps
+kept : {A : Type 0} (test : A → Bool) (x : A) (xs : List A) → List·Memᴰ x xs → test x ≡ true → List·Memᴰ x (filter test xs)
+unfolding filter
+kept test x (y ∷ ys) (List·Memᴰ·head e) h = rw (ap test (sym e) ∙ h) (List·Memᴰ·head e)
+kept test x (y ∷ ys) (List·Memᴰ·tail m) h =
+    ⊎-elim
+    (λ (p : test y ≡ true). rw p (List·Memᴰ·tail (kept test x ys m h)))
+    (λ (p : test y ≡ false). rw p (kept test x ys m h))
+    (decided (test y))
+
+-- 9 passed: every head has a rule
+heads : (g : PushdownGame) → everyHead (g .control) (g .letters) (g .rules) ≡ true → (p a : ℕ) → p < g .control → a < g .letters → (r : Rule) × List·Memᴰ r (rulesOf g p a)
+unfolding everyHead everyLetter rulesOf
+heads g h p a i j =
+    let f = any-found (ofHead p a) (g .rules) (all-below-at (g .letters) _ (all-below-at (g .control) _ h p i) a j) in
+    (f .0, kept (ofHead p a) (f .0) (g .rules) (f .1) (f .2))
+
+refused≢done : {A : Type 0} {n p : ℕ} {x : A} → refused n p ≡ done x → ⊥
+refused≢done e = let z : _≡_ {A = ℕ} 0 1 = cc in omega arith
+
+ended : (size at : ℕ) (g x : PushdownGame) → Ranged g → ending size at g ≡ done x → Good x
+unfolding ending
+ended size at g x r e =
+    ⊎-elim
+    (λ (p : eqb (at + 1) size ≡ true).
+    ⊎-elim
+    (λ (q : everyHead (g .control) (g .letters) (g .rules) ≡ true).
+    let same : g ≡ x = cc (rw (p, q) at e) in
+    rw (← same) (record { ranged = r; head = heads g q }))
+    (λ (q : everyHead (g .control) (g .letters) (g .rules) ≡ false). absurd (refused≢done (rw (p, q) at e)))
+    (decided (everyHead (g .control) (g .letters) (g .rules))))
+    (λ (p : eqb (at + 1) size ≡ false). absurd (refused≢done (rw p at e)))
+    (decided (eqb (at + 1) size))
+
+-- FF passes 3 only after 01
+started : (g : PushdownGame) → SoFar g → ask g End ≡ 0 → Ranged g
+started g k h =
+    ⊎-elim
+    (λ (e : g ≡ emptyGame). absurd (unfold inOrder in (impossible (rw e at (asked g End h .order)))))
+    (λ (r : Ranged g). r)
+    k
+
+took : (size at : ℕ) (g x : PushdownGame) → SoFar g → (command : Command) → ask g command ≡ 0 → (rest : Outcome PushdownGame) → (rest ≡ done x → Good x) → taken size at g command rest ≡ done x → Good x
+unfolding taken
+took size at g x k (Sizes p s l) h rest good e = good e
+took size at g x k (Abelard p) h rest good e = good e
+took size at g x k (Final q) h rest good e = good e
+took size at g x k (RuleIs p a q n b c) h rest good e = good e
+took size at g x k (Target q a s) h rest good e = good e
+took size at g x k End h rest good e = ended size at g x (started g k h) e
+
+meets : (size at : ℕ) (g x : PushdownGame) → SoFar g → (found : Found) → (rest : ℕ → PushdownGame → Outcome PushdownGame) → ((next : ℕ) (grown : PushdownGame) → SoFar grown → rest next grown ≡ done x → Good x) → met size at g found rest ≡ done x → Good x
+unfolding met
+meets size at g x k Missing rest good e = absurd (refused≢done e)
+meets size at g x k Unknown rest good e = absurd (refused≢done e)
+meets size at g x k (Next command next) rest good e =
+    ⊎-elim
+    (λ (p : eqb (ask g command) 0 ≡ true).
+    let h = eqb-true (ask g command) 0 p in
+    took size at g x k command h (rest next (add g command)) (good next (add g command) (so-far g k command h)) (rw p at e))
+    (λ (p : eqb (ask g command) 0 ≡ false). absurd (refused≢done (rw p at e)))
+    (decided (eqb (ask g command) 0))
+
+walked : (left : ℕ) (file : List ℕ) (at : ℕ) (g x : PushdownGame) → SoFar g → walk left file at g ≡ done x → Good x
+unfolding walk
+walked zero file at g x k e = absurd (refused≢done e)
+walked (suc left) file at g x k e =
+    ⊎-elim
+    (λ (p : ltb at (length file) ≡ true).
+    meets (length file) at g x k (commandAt file at) (walk left file) (λ next grown s. walked left file next grown x s) (rw p at e))
+    (λ (p : ltb at (length file) ≡ false). absurd (refused≢done (rw p at e)))
+    (decided (ltb at (length file)))
+
+-- A game that was read is good.
+pub good : (file : List ℕ) (g : PushdownGame) → reading file ≡ done g → Good g
+unfolding reading
+good file g e =
+    ⊎-elim
+    (λ (p : ltb (length file) 1 ≡ true). absurd (refused≢done (rw p at e)))
+    (λ (p : ltb (length file) 1 ≡ false).
+    ⊎-elim
+    (λ (q : ltb 4096 (length file) ≡ true). absurd (refused≢done (rw (p, q) at e)))
+    (λ (q : ltb 4096 (length file) ≡ false). walked (length file) file 0 emptyGame g (inl refl) (rw (p, q) at e))
+    (decided (ltb 4096 (length file))))
+    (decided (ltb (length file) 1))

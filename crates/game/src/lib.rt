@@ -1,0 +1,20 @@
+// Reading a game file: the limits and the game, the command reader, questions 1 to 9 of document 01, and the form of
+// a position (question 14).
+//
+// It leaves out tables, judging, moving and solving, which stand in crates above this one.
+mod command;
+mod game;
+mod position;
+mod question;
+mod reading;
+
+pub use command::Command;
+pub use command::Found;
+pub use command::command_at;
+pub use game::Answer;
+pub use game::Game;
+pub use game::Reading;
+pub use position::position_form;
+pub use question::has_state;
+pub use question::is_rule_of;
+pub use question::is_within;

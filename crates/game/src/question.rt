@@ -1,0 +1,479 @@
+// Questions 3 to 7, put to one command after the game so far, and question 9.
+use crate::command::Command;
+use crate::game::Game;
+ghost use mathlib.Core.Path.{_≡_};
+ghost use mathlib.Core.Bool.{not, true};
+ghost use mathlib.Core.List.{List, _++_};
+ghost use Prim.Native.Nat.{ℕ, _<_, _≤_, _+_, _*_};
+ghost use lib.ListN.{length, getD};
+ghost use Rattle.game.specs.Sets.{has, within};
+ghost use Rattle.game.specs.Game.{PushdownGame, Rule, Transition, wordOf, ofHead};
+ghost use Rattle.game.specs.Stored.{stored, ruleBytes, ruleAt, targetWords, targetAt};
+ghost use Rattle.game.specs.Questions.{
+  inOrder,
+  sizesInRange,
+  between,
+  unusedZero,
+  ruleInRange,
+  targetInRange,
+  inRange,
+  bottomLast,
+  noBottom,
+  bottomKept,
+  keepsBottom,
+  sameRule,
+  sameTarget,
+  isNew,
+  hasRoom,
+  ask,
+  any,
+  everyLetter,
+  everyHead,
+};
+
+// Questions 3 to 7: 0, or the number of the first that is answered no.
+pub fn ask_command(game: Game, command: Command) -> u8
+    requires { ⌜ (game .control ≤ 32) × (game .states ≤ 32) × (game .rulecount ≤ 256) × (game .targetcount ≤ 256) ⌝ }
+    ensures { λ r. ⌜ ((g : PushdownGame) → game ≡ stored g → r ≡ ask g command) ⌝ }
+{
+    if !is_in_order(game.states, command) {
+        return 3;
+    }
+    if !is_in_range(game.control, game.states, game.letters, command) {
+        return 4;
+    }
+    if !is_bottom_kept(command) {
+        return 5;
+    }
+    if !is_new(game, command) {
+        return 6;
+    }
+    if !is_room(game.rulecount, game.targetcount, command) {
+        return 7;
+    }
+    0
+}
+
+// 3. Is 01 the first command, and only there?
+fn is_in_order(states: u8, command: Command) -> bool
+    ensures { λ r. ⌜ r ≡ inOrder states command ⌝ }
+{
+    match command {
+        Command::Sizes {
+            control: _,
+            states: _,
+            letters: _,
+        } => states == 0,
+        _ => states != 0,
+    }
+}
+
+// 4. Are operands in range?
+fn is_in_range(control: u8, states: u8, letters: u8, command: Command) -> bool
+    requires { ⌜ (control ≤ 32) × (states ≤ 32) ⌝ }
+    ensures { λ r. ⌜ r ≡ inRange control states letters command ⌝ }
+{
+    match command {
+        Command::Sizes {
+            control: p,
+            states: s,
+            letters: l,
+        } => are_sizes_in_range(p, s, l),
+        Command::Abelard { state } => state < control,
+        Command::Final { state } => is_between(control, state, states),
+        Command::Rule {
+            from,
+            top,
+            to,
+            count,
+            above,
+            below,
+        } => { is_rule_in_range(control, letters, from, top, to, count, above, below) }
+        Command::Target { state, letter, set } => {
+            is_target_in_range(control, states, letters, state, letter, set)
+        }
+        Command::End => true,
+    }
+}
+
+fn is_between(low: u8, x: u8, high: u8) -> bool
+    ensures { λ r. ⌜ r ≡ between low x high ⌝ }
+{
+    if x < low {
+        return false;
+    }
+    if high <= x {
+        return false;
+    }
+    true
+}
+
+fn are_sizes_in_range(control: u8, states: u8, letters: u8) -> bool
+    ensures { λ r. ⌜ r ≡ sizesInRange control states letters ⌝ }
+{
+    if control < 1 {
+        return false;
+    }
+    if Game::MAX_CONTROL < control {
+        return false;
+    }
+    if states <= control {
+        return false;
+    }
+    if Game::MAX_STATES < states {
+        return false;
+    }
+    if letters < 1 {
+        return false;
+    }
+    if Game::MAX_LETTERS < letters {
+        return false;
+    }
+    true
+}
+
+fn is_rule_in_range(
+    control: u8,
+    letters: u8,
+    from: u8,
+    top: u8,
+    to: u8,
+    count: u8,
+    above: u8,
+    below: u8,
+) -> bool
+    ensures { λ r. ⌜ r ≡ ruleInRange control letters from top to count above below ⌝ }
+{
+    if control <= from {
+        return false;
+    }
+    if letters <= top {
+        return false;
+    }
+    if control <= to {
+        return false;
+    }
+    if 2 < count {
+        return false;
+    }
+    if letters <= above {
+        return false;
+    }
+    if letters <= below {
+        return false;
+    }
+    are_unused_zero(count, above, below)
+}
+
+fn are_unused_zero(count: u8, above: u8, below: u8) -> bool
+    ensures { λ r. ⌜ r ≡ unusedZero count above below ⌝ }
+{
+    if 2 <= count {
+        return true;
+    }
+    if below != 0 {
+        return false;
+    }
+    if 1 <= count {
+        return true;
+    }
+    above == 0
+}
+
+fn is_target_in_range(control: u8, states: u8, letters: u8, state: u8, letter: u8, set: u32) -> bool
+    requires { ⌜ (control ≤ 32) × (states ≤ 32) ⌝ }
+    ensures { λ r. ⌜ r ≡ targetInRange control states letters state letter set ⌝ }
+{
+    if states <= state {
+        return false;
+    }
+    if letters <= letter {
+        return false;
+    }
+    if set == 0 {
+        return false;
+    }
+    is_within(control, states, set)
+}
+
+// Only states from `low` to `high` - 1 are in the set.
+pub fn is_within(low: u8, high: u8, set: u32) -> bool
+    requires { ⌜ (low ≤ 32) × (high ≤ 32) ⌝ }
+    ensures { λ r. ⌜ r ≡ within low high set ⌝ }
+{
+    let wide = set as u64;
+    if wide % (1u64 << low) != 0 {
+        return false;
+    }
+    if wide >> high != 0 {
+        return false;
+    }
+    true
+}
+
+// 5. Does the rule keep the bottom?
+fn is_bottom_kept(command: Command) -> bool
+    ensures { λ r. ⌜ r ≡ keepsBottom command ⌝ }
+{
+    match command {
+        Command::Rule {
+            from: _,
+            top,
+            to: _,
+            count,
+            above,
+            below,
+        } => is_word_kept(top, count, above, below),
+        _ => true,
+    }
+}
+
+fn is_word_kept(top: u8, count: u8, above: u8, below: u8) -> bool
+    ensures { λ r. ⌜ r ≡ bottomKept top (wordOf count above below) ⌝ }
+{
+    if top == 0 {
+        return is_bottom_last(count, above, below);
+    }
+    is_bottom_absent(count, above, below)
+}
+
+fn is_bottom_last(count: u8, above: u8, below: u8) -> bool
+    ensures { λ r. ⌜ r ≡ bottomLast (wordOf count above below) ⌝ }
+{
+    if count == 0 {
+        return false;
+    }
+    if count == 1 {
+        return above == 0;
+    }
+    if above == 0 {
+        return false;
+    }
+    below == 0
+}
+
+fn is_bottom_absent(count: u8, above: u8, below: u8) -> bool
+    ensures { λ r. ⌜ r ≡ noBottom (wordOf count above below) ⌝ }
+{
+    if count == 0 {
+        return true;
+    }
+    if count == 1 {
+        return above != 0;
+    }
+    if above == 0 {
+        return false;
+    }
+    below != 0
+}
+
+// 6. Is the statement new?
+fn is_new(game: Game, command: Command) -> bool
+    requires { ⌜ (game .rulecount ≤ 256) × (game .targetcount ≤ 256) ⌝ }
+    ensures { λ r. ⌜ ((g : PushdownGame) → game ≡ stored g → r ≡ isNew g command) ⌝ }
+{
+    match command {
+        Command::Abelard { state } => !has_state(game.abelard, state),
+        Command::Final { state } => !has_state(game.finals, state),
+        Command::Rule {
+            from,
+            top,
+            to,
+            count,
+            above,
+            below,
+        } => {
+            let rules = game.rules;
+            !is_rule_stored(&rules, game.rulecount, from, top, to, count, above, below)
+        }
+        Command::Target { state, letter, set } => {
+            let targets = game.targets;
+            !is_target_stored(&targets, game.targetcount, state, letter, set)
+        }
+        _ => true,
+    }
+}
+
+// State s is in the set.
+pub fn has_state(set: u32, s: u8) -> bool
+    ensures { λ r. ⌜ r ≡ has set s ⌝ }
+{
+    if 31 < s {
+        return false;
+    }
+    (set >> s) % 2 == 1
+}
+
+// One of the first `stored` rules is this one.
+fn is_rule_stored(
+    rules: &[u8],
+    stored: usize,
+    from: u8,
+    top: u8,
+    to: u8,
+    count: u8,
+    above: u8,
+    below: u8,
+) -> bool
+    requires { ⌜ (stored * 6 ≤ length (now rules)) × (stored ≤ 256) ⌝ }
+    ensures { λ r. ⌜ ((rs : List Rule) (t : List ℕ) → now (rules .entry) ≡ ruleBytes rs ++ t → stored ≡ length rs
+        → r ≡ any (sameRule from top to count above below) rs) ⌝ }
+{
+    let mut i = 0;
+    while i < stored {
+        if is_rule_at(
+            rules,
+            i * Game::RULE_STRIDE,
+            from,
+            top,
+            to,
+            count,
+            above,
+            below,
+        ) {
+            return true;
+        }
+        i += 1;
+    }
+    false
+}
+
+fn is_rule_at(
+    rules: &[u8],
+    at: usize,
+    from: u8,
+    top: u8,
+    to: u8,
+    count: u8,
+    above: u8,
+    below: u8,
+) -> bool
+    requires { ⌜ at + 6 ≤ length (now rules) ⌝ }
+    ensures { λ r. ⌜ r ≡ sameRule from top to count above below (ruleAt (now (rules .entry)) at 0) ⌝ }
+{
+    if rules[at] != from {
+        return false;
+    }
+    if rules[at + 1] != top {
+        return false;
+    }
+    if rules[at + 2] != to {
+        return false;
+    }
+    if rules[at + 3] != count {
+        return false;
+    }
+    if rules[at + 4] != above {
+        return false;
+    }
+    rules[at + 5] == below
+}
+
+// One of the first `stored` target transitions is this one.
+fn is_target_stored(targets: &[u32], stored: usize, state: u8, letter: u8, set: u32) -> bool
+    requires { ⌜ (stored * 3 ≤ length (now targets)) × (stored ≤ 256) ⌝ }
+    ensures { λ r. ⌜ ((ts : List Transition) (t : List ℕ) → now (targets .entry) ≡ targetWords ts ++ t → stored ≡ length ts
+        → r ≡ any (sameTarget state letter set) ts) ⌝ }
+{
+    let mut i = 0;
+    while i < stored {
+        if is_target_at(targets, i * Game::TARGET_STRIDE, state, letter, set) {
+            return true;
+        }
+        i += 1;
+    }
+    false
+}
+
+fn is_target_at(targets: &[u32], at: usize, state: u8, letter: u8, set: u32) -> bool
+    requires { ⌜ at + 3 ≤ length (now targets) ⌝ }
+    ensures { λ r. ⌜ r ≡ sameTarget state letter set (targetAt (now (targets .entry)) at) ⌝ }
+{
+    if targets[at] != state as u32 {
+        return false;
+    }
+    if targets[at + 1] != letter as u32 {
+        return false;
+    }
+    targets[at + 2] == set
+}
+
+// 7. Were fewer than 256 of its kind before?
+fn is_room(rules: usize, targets: usize, command: Command) -> bool
+    ensures { λ r. ⌜ r ≡ hasRoom rules targets command ⌝ }
+{
+    match command {
+        Command::Rule {
+            from: _,
+            top: _,
+            to: _,
+            count: _,
+            above: _,
+            below: _,
+        } => rules < Game::MAX_RULES,
+        Command::Target {
+            state: _,
+            letter: _,
+            set: _,
+        } => targets < Game::MAX_TARGETS,
+        _ => true,
+    }
+}
+
+// 9. Has every head a rule?
+pub fn is_every_head(rules: &[u8], stored: usize, control: u8, letters: u8) -> bool
+    requires { ⌜ (stored * 6 ≤ length (now rules)) × (stored ≤ 256) ⌝ }
+    ensures { λ r. ⌜ ((rs : List Rule) (t : List ℕ) → now (rules .entry) ≡ ruleBytes rs ++ t → stored ≡ length rs
+        → r ≡ everyHead control letters rs) ⌝ }
+{
+    let mut p = 0;
+    while p < control {
+        if !is_every_letter(rules, stored, p, letters) {
+            return false;
+        }
+        p += 1;
+    }
+    true
+}
+
+fn is_every_letter(rules: &[u8], stored: usize, p: u8, letters: u8) -> bool
+    requires { ⌜ (stored * 6 ≤ length (now rules)) × (stored ≤ 256) ⌝ }
+    ensures { λ r. ⌜ ((rs : List Rule) (t : List ℕ) → now (rules .entry) ≡ ruleBytes rs ++ t → stored ≡ length rs
+        → r ≡ everyLetter letters p rs) ⌝ }
+{
+    let mut a = 0;
+    while a < letters {
+        if !is_head(rules, stored, p, a) {
+            return false;
+        }
+        a += 1;
+    }
+    true
+}
+
+// The head (p, a) has a rule.
+fn is_head(rules: &[u8], stored: usize, p: u8, a: u8) -> bool
+    requires { ⌜ (stored * 6 ≤ length (now rules)) × (stored ≤ 256) ⌝ }
+    ensures { λ r. ⌜ ((rs : List Rule) (t : List ℕ) → now (rules .entry) ≡ ruleBytes rs ++ t → stored ≡ length rs
+        → r ≡ any (ofHead p a) rs) ⌝ }
+{
+    let mut i = 0;
+    while i < stored {
+        if is_rule_of(rules, i * Game::RULE_STRIDE, p, a) {
+            return true;
+        }
+        i += 1;
+    }
+    false
+}
+
+// The rule stored at an offset is one of the head (p, a).
+pub fn is_rule_of(rules: &[u8], at: usize, p: u8, a: u8) -> bool
+    requires { ⌜ at + 6 ≤ length (now rules) ⌝ }
+    ensures { λ r. ⌜ r ≡ ofHead p a (ruleAt (now (rules .entry)) at 0) ⌝ }
+{
+    if rules[at] != p {
+        return false;
+    }
+    rules[at + 1] == a
+}

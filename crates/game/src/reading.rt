@@ -1,0 +1,77 @@
+// Reading a game file: questions 1 to 9, and the game.
+use crate::command::Command;
+use crate::command::Found;
+use crate::command::command_at;
+use crate::game::Answer;
+use crate::game::Game;
+use crate::game::Reading;
+use crate::question::ask_command;
+use crate::question::is_every_head;
+ghost use mathlib.Core.Path.{_≡_};
+ghost use Prim.Native.Nat.{_<_, _≤_};
+ghost use lib.ListN.{length};
+ghost use Rattle.game.specs.Game.{PushdownGame};
+ghost use Rattle.game.specs.Outcome.{refused};
+ghost use Rattle.game.specs.Questions.{ending, reading};
+ghost use Rattle.game.specs.Stored.{stored, Reports};
+
+impl Game {
+    // The game that a file describes, or the first question that is answered no, with its place.
+    pub fn read(file: &[u8]) -> Reading
+        ensures { λ r. ⌜ Reports (reading (now (file .entry))) r ⌝ }
+    {
+        if file.len() < 1 {
+            return refuse(1, 0);
+        }
+        if Game::MAX_FILE < file.len() {
+            return refuse(1, 0);
+        }
+        let mut game = Game::empty();
+        let mut at = 0;
+        while at < file.len() {
+            let found = command_at(file, at);
+            let Found::Next(command, next) = found else {
+                return refuse(2, at);
+            };
+            let number = ask_command(game, command);
+            if number != 0 {
+                return refuse(number, at);
+            }
+            if let Command::End = command {
+                return close(file.len(), at, game);
+            }
+            let grown = game.with(command);
+            game = grown;
+            at = next;
+        }
+        refuse(8, file.len())
+    }
+}
+
+// A refusal, with the game all zero.
+fn refuse(question: u8, place: usize) -> Reading
+    ensures { λ r. ⌜ Reports (refused question place) r ⌝ }
+{
+    Reading {
+        answer: Answer::Refused { question, place },
+        game: Game::empty(),
+    }
+}
+
+// Questions 8 and 9, at FF.
+fn close(size: usize, at: usize, game: Game) -> Reading
+    requires { ⌜ (at < size) × (game .rulecount ≤ 256) ⌝ }
+    ensures { λ r. ⌜ ((g : PushdownGame) → game ≡ stored g → Reports (ending size at g) r) ⌝ }
+{
+    if at + 1 != size {
+        return refuse(8, at);
+    }
+    let rules = game.rules;
+    if !is_every_head(&rules, game.rulecount, game.control, game.letters) {
+        return refuse(9, at);
+    }
+    Reading {
+        answer: Answer::Done,
+        game,
+    }
+}
