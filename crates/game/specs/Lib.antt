@@ -11,4 +11,6 @@ pub mod Win
 pub mod ListLaws
 pub mod StoredLaws
 pub mod GoodGame
+pub mod NumberLaws
 pub mod Reads
+pub mod Held

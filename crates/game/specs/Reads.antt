@@ -18,7 +18,7 @@ use Rattle.game.specs.Game.{Rule, Transition, PushdownGame, emptyGame, w
 use Rattle.game.specs.Outcome.{Outcome, done, refused}
 use Rattle.game.specs.Command.{commandAt}
 use Rattle.game.specs.Questions.{any, allBelow, inOrder, sizesInRange, between, unusedZero, ruleInRange, targetInRange, inRange, bottomKept, keepsBottom, sameRule, sameTarget, isNew, hasRoom, ask, Room, add, everyLetter, everyHead, ending, taken, met, walk, reading}
-use Rattle.game.specs.ListLaws.{decided, last-or-below, and-left, and-right, any-found, all-below-at}
+use Rattle.game.specs.ListLaws.{test, clash, both, any-in, in-filter, none-at, allBelow-at, below-suc}
 use Rattle.game.specs.StoredLaws.{noTransition}
 use Rattle.game.specs.GoodGame.{GoodRule, GoodTarget, Numbered, Distinct, Ranged, SoFar, Good}
 use Rattle.game.specs.declared.command.Command.{Command}
@@ -61,9 +61,6 @@ first (Final q) h = absurd (impossible h)
 first (RuleIs p a q k b c) h = absurd (impossible h)
 first (Target q a set) h = absurd (impossible h)
 first End h = absurd (impossible h)
-
-both : (a b : Bool) → (a && b) ≡ true → (a ≡ true) × (b ≡ true)
-both a b h = (and-left a b h, and-right a b h)
 
 -- the game after an accepted 01
 opened : (p s l : ℕ) → sizesInRange p s l ≡ true → Ranged (add emptyGame (Sizes p s l))
@@ -138,21 +135,6 @@ numbered-more n (x ∷ rs) r h e = (h .0, numbered-more (suc n) rs r (h .1) (ome
 one-more : {A : Type 0} {x y : A} (xs : List A) → List·Memᴰ x (xs ++ (y ∷ [])) → List·Memᴰ x xs ⊎ (x ≡ y)
 one-more xs m = ⊎-elim inl (λ n. inr (List·Memᴰ·eq-of-singleton n)) (List·Memᴰ·append-cases xs m)
 
-or-first : (a b : Bool) → (a || b) ≡ false → a ≡ false
-or-first true b h = h
-or-first false b h = refl
-
-or-second : (a b : Bool) → (a || b) ≡ false → b ≡ false
-or-second true b h = absurd (impossible (sym h))
-or-second false b h = h
-
--- no element of the list passes the test
-none-at : {A : Type 0} (test : A → Bool) (d : A) (xs : List A) → any test xs ≡ false → (k : ℕ) → k < length xs → test (getD xs k d) ≡ false
-unfolding any
-none-at test d [] h k l = absurd (omega arith)
-none-at test d (x ∷ xs) h zero l = or-first (test x) (any test xs) h
-none-at test d (x ∷ xs) h (suc k) l = none-at test d xs (or-second (test x) (any test xs) h) k (omega arith)
-
 same-target : (q a s : ℕ) (t : Transition) → t ≡ record { state = q; letter = a; set = s } → sameTarget q a s t ≡ true
 unfolding sameTarget
 same-target q a s t e = rw (e, eq-eqb q q refl, eq-eqb a a refl, eq-eqb s s refl)
@@ -164,12 +146,12 @@ distinct-more ts q a s d none i j h l e =
     let here : i < length ts = omega arith in
     let old = List·getD-append ts (t ∷ []) noTransition i here in
     ⊎-elim
+    (λ (k : j < length ts). d i j h k (sym old ∙ e ∙ List·getD-append ts (t ∷ []) noTransition j k))
     (λ (k : j ≡ length ts).
     impossible
     (sym (none-at (sameTarget q a s) noTransition ts none i here)
     ∙ same-target q a s _ (sym old ∙ e ∙ ap (λ (x : ℕ). getD (ts ++ (t ∷ [])) x noTransition) k ∙ getD-append-seam ts t [] noTransition)))
-    (λ (k : j < length ts). d i j h k (sym old ∙ e ∙ List·getD-append ts (t ∷ []) noTransition j k))
-    (last-or-below j (length ts) (omega arith))
+    (below-suc (omega arith))
 
 -- questions 3 to 7 passed keep the game in range
 grow : (g : PushdownGame) → Ranged g → (command : Command) → Passed g command → Ranged (add g command)
@@ -201,7 +183,7 @@ grow g k (Final q) h =
       bottom = k .bottom;
       letters = k .letters;
       abelard = k .abelard;
-      finals = or-lt (g .states) (g .finals) (2 ^ q) (k .finals) (pow-lt (ltb-true q (g .states) (and-right (leb (g .control) q) (ltb q (g .states)) (h .range))));
+      finals = or-lt (g .states) (g .finals) (2 ^ q) (k .finals) (pow-lt (ltb-true q (g .states) (both (leb (g .control) q) (ltb q (g .states)) (h .range) .1)));
       rule = k .rule;
       numbers = k .numbers;
       rules = k .rules;
@@ -274,7 +256,7 @@ roomy : (g : PushdownGame) → SoFar g → (command : Command) → Passed g comm
 unfolding inRange between hasRoom
 roomy g k (Sizes p s l) h = tt
 roomy g k (Abelard p) h = omega (arith, limits g k, ltb-true p (g .control) (h .range))
-roomy g k (Final q) h = omega (arith, limits g k, ltb-true q (g .states) (and-right (leb (g .control) q) (ltb q (g .states)) (h .range)))
+roomy g k (Final q) h = omega (arith, limits g k, ltb-true q (g .states) (both (leb (g .control) q) (ltb q (g .states)) (h .range) .1))
 roomy g k (RuleIs p a q n b c) h = ltb-true _ _ (h .room)
 roomy g k (Target q a s) h = ltb-true _ _ (h .room)
 roomy g k End h = tt
@@ -283,22 +265,12 @@ roomy g k End h = tt
 pub room : (g : PushdownGame) → SoFar g → (command : Command) → ask g command ≡ 0 → Room (length (g .rules)) (length (g .targets)) command
 room g k command h = roomy g k command (asked g command h)
 
--- a rule that passes a test is among those that the filter keeps
-kept : {A : Type 0} (test : A → Bool) (x : A) (xs : List A) → List·Memᴰ x xs → test x ≡ true → List·Memᴰ x (filter test xs)
-unfolding filter
-kept test x (y ∷ ys) (List·Memᴰ·head e) h = rw (ap test (sym e) ∙ h) (List·Memᴰ·head e)
-kept test x (y ∷ ys) (List·Memᴰ·tail m) h =
-    ⊎-elim
-    (λ (p : test y ≡ true). rw p (List·Memᴰ·tail (kept test x ys m h)))
-    (λ (p : test y ≡ false). rw p (kept test x ys m h))
-    (decided (test y))
-
 -- 9 passed: every head has a rule
 heads : (g : PushdownGame) → everyHead (g .control) (g .letters) (g .rules) ≡ true → (p a : ℕ) → p < g .control → a < g .letters → (r : Rule) × List·Memᴰ r (rulesOf g p a)
 unfolding everyHead everyLetter rulesOf
 heads g h p a i j =
-    let f = any-found (ofHead p a) (g .rules) (all-below-at (g .letters) _ (all-below-at (g .control) _ h p i) a j) in
-    (f .0, kept (ofHead p a) (f .0) (g .rules) (f .1) (f .2))
+    let f = any-in (ofHead p a) (g .rules) (allBelow-at (g .letters) _ (allBelow-at (g .control) _ h p i) a j) in
+    (f .0, in-filter (ofHead p a) (f .1) (f .2))
 
 refused≢done : {A : Type 0} {n p : ℕ} {x : A} → refused n p ≡ done x → ⊥
 refused≢done e = let z : _≡_ {A = ℕ} 0 1 = cc in omega arith
@@ -313,9 +285,9 @@ ended size at g x r e =
     let same : g ≡ x = cc (rw (p, q) at e) in
     rw (← same) (record { ranged = r; head = heads g q }))
     (λ (q : everyHead (g .control) (g .letters) (g .rules) ≡ false). absurd (refused≢done (rw (p, q) at e)))
-    (decided (everyHead (g .control) (g .letters) (g .rules))))
+    (test (everyHead (g .control) (g .letters) (g .rules))))
     (λ (p : eqb (at + 1) size ≡ false). absurd (refused≢done (rw p at e)))
-    (decided (eqb (at + 1) size))
+    (test (eqb (at + 1) size))
 
 -- FF passes 3 only after 01
 started : (g : PushdownGame) → SoFar g → ask g End ≡ 0 → Ranged g
@@ -344,7 +316,7 @@ meets size at g x k (Next command next) rest good e =
     let h = eqb-true (ask g command) 0 p in
     took size at g x k command h (rest next (add g command)) (good next (add g command) (so-far g k command h)) (rw p at e))
     (λ (p : eqb (ask g command) 0 ≡ false). absurd (refused≢done (rw p at e)))
-    (decided (eqb (ask g command) 0))
+    (test (eqb (ask g command) 0))
 
 walked : (left : ℕ) (file : List ℕ) (at : ℕ) (g x : PushdownGame) → SoFar g → walk left file at g ≡ done x → Good x
 unfolding walk
@@ -354,7 +326,7 @@ walked (suc left) file at g x k e =
     (λ (p : ltb at (length file) ≡ true).
     meets (length file) at g x k (commandAt file at) (walk left file) (λ next grown s. walked left file next grown x s) (rw p at e))
     (λ (p : ltb at (length file) ≡ false). absurd (refused≢done (rw p at e)))
-    (decided (ltb at (length file)))
+    (test (ltb at (length file)))
 
 -- A game that was read is good.
 pub good : (file : List ℕ) (g : PushdownGame) → reading file ≡ done g → Good g
@@ -366,5 +338,5 @@ good file g e =
     ⊎-elim
     (λ (q : ltb 4096 (length file) ≡ true). absurd (refused≢done (rw (p, q) at e)))
     (λ (q : ltb 4096 (length file) ≡ false). walked (length file) file 0 emptyGame g (inl refl) (rw (p, q) at e))
-    (decided (ltb 4096 (length file))))
-    (decided (ltb (length file) 1))
+    (test (ltb 4096 (length file))))
+    (test (ltb (length file) 1))

@@ -3,11 +3,13 @@ use Prim.Native.Nat.{ℕ, _+_, _*_, _-_}
 use mathlib.Core.Path.{_≡_}
 use mathlib.Core.List.{List, [], _∷_, _++_}
 use lib.ListN.{length, getD, replicate}
-use Rattle.game.specs.Limits.{maxRules, ruleStride, maxTargets, targetStride}
+use Rattle.game.specs.Limits.{maxFile, maxControl, maxStates, maxLetters, maxRules, maxTargets, maxEntries, maxRounds, maxStack, ruleStride, targetStride}
 use Rattle.game.specs.Game.{Rule, Transition, PushdownGame, emptyGame}
 use Rattle.game.specs.Outcome.{Outcome, done, refused, answer, said}
 use Rattle.game.specs.declared.game.Game.{Game}
+use Rattle.game.specs.declared.game.Limits.{Limits}
 use Rattle.game.specs.declared.game.Reading.{Reading}
+use Rattle.game.specs.declared.game.Sizes.{Sizes}
 
 unfoldable pub ruleBytes : List Rule → List ℕ
 ruleBytes [] = []
@@ -49,6 +51,33 @@ stored g =
       rules = padded (maxRules * ruleStride) (ruleBytes (g .rules));
       targetcount = length (g .targets);
       targets = padded (maxTargets * targetStride) (targetWords (g .targets));
+    }
+
+abbrev pub sizesOf : PushdownGame → Sizes
+sizesOf g =
+    record {
+      control = g .control;
+      states = g .states;
+      letters = g .letters;
+      abelard = g .abelard;
+      finals = g .finals;
+      rulecount = length (g .rules);
+      targetcount = length (g .targets);
+    }
+
+-- the limits by their names
+abbrev pub limitsAre : Limits
+limitsAre =
+    record {
+      file = maxFile;
+      control = maxControl;
+      states = maxStates;
+      letters = maxLetters;
+      rules = maxRules;
+      targets = maxTargets;
+      entries = maxEntries;
+      rounds = maxRounds;
+      stack = maxStack;
     }
 
 -- what an outcome of reading hands out as the game: nothing read, where the file is refused

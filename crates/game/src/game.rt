@@ -4,7 +4,7 @@ ghost use mathlib.Core.Path.{_≡_};
 ghost use Prim.Native.Nat.{_<_};
 ghost use Rattle.game.specs.Game.{PushdownGame, emptyGame};
 ghost use Rattle.game.specs.Questions.{Room, add};
-ghost use Rattle.game.specs.Stored.{stored};
+ghost use Rattle.game.specs.Stored.{stored, sizesOf, limitsAre};
 ghost use Rattle.game.specs.declared.command.Command.the-variants.{Rule, Target};
 
 // A game by value. Rules and target transitions are flat, one after the other in file order; what is not used is 0.
@@ -24,10 +24,34 @@ pub struct Game {
     pub targets: [u32; Game::MAX_TARGETS * Game::TARGET_STRIDE],
 }
 
+// A game but for its rules and target transitions: what those above hand on beside the flat rules.
+pub struct Sizes {
+    pub control: u8,
+    pub states: u8,
+    pub letters: u8,
+    pub abelard: u32,
+    pub finals: u32,
+    pub rulecount: usize,
+    pub targetcount: usize,
+}
+
 // Done, or the number of the question that was answered no, and its place.
 pub enum Answer {
     Done,
     Refused { question: u8, place: usize },
+}
+
+// The limits of document 01.
+pub struct Limits {
+    pub file: usize,
+    pub control: u8,
+    pub states: u8,
+    pub letters: u8,
+    pub rules: usize,
+    pub targets: usize,
+    pub entries: usize,
+    pub rounds: u32,
+    pub stack: usize,
 }
 
 // What reading a file answers, with the game: all zero where the file is refused.
@@ -73,6 +97,38 @@ impl Game {
             rules: [0; Game::MAX_RULES * Game::RULE_STRIDE],
             targetcount: 0,
             targets: [0; Game::MAX_TARGETS * Game::TARGET_STRIDE],
+        }
+    }
+
+    // What the game holds beside its rules and target transitions.
+    pub fn sizes(self) -> Sizes
+        ensures { λ r. ⌜ ((g : PushdownGame) → self ≡ stored g → r ≡ sizesOf g) ⌝ }
+    {
+        Sizes {
+            control: self.control,
+            states: self.states,
+            letters: self.letters,
+            abelard: self.abelard,
+            finals: self.finals,
+            rulecount: self.rulecount,
+            targetcount: self.targetcount,
+        }
+    }
+
+    // The limits, for whoever reads the definitions: these are theirs.
+    pub fn limits() -> Limits
+        ensures { λ r. ⌜ r ≡ limitsAre ⌝ }
+    {
+        Limits {
+            file: Game::MAX_FILE,
+            control: Game::MAX_CONTROL,
+            states: Game::MAX_STATES,
+            letters: Game::MAX_LETTERS,
+            rules: Game::MAX_RULES,
+            targets: Game::MAX_TARGETS,
+            entries: Game::MAX_ENTRIES,
+            rounds: Game::MAX_ROUNDS,
+            stack: Game::MAX_STACK,
         }
     }
 

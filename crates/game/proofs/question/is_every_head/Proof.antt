@@ -9,7 +9,7 @@ use lib.ListN.{length}
 use Rattle.game.specs.Game.{Rule}
 use Rattle.game.specs.Stored.{ruleBytes}
 use Rattle.game.specs.Questions.{everyLetter, everyHead}
-use Rattle.game.specs.ListLaws.{all-below, not-all-below}
+use Rattle.game.specs.ListLaws.{at-allBelow, not-allBelow}
 use Rattle.game.proofs.question.is_every_head.Statement.{statement}
 use Rattle.game.proofs.question.is_every_head.Tie as tie
 use Rattle.game.proofs.question.is_every_head.Reads as reads
@@ -35,7 +35,7 @@ is-every-letter-requires c κs = c .before .before .before .pre
 -- src/question.rt:367:13
 returns : tie.Need-returns Inv-loop μ-loop
 unfolding everyHead
-returns c = λ rs t e n. sym (not-all-below _ _ (c .before .before .before .loop .p) (c .before .before .loop-test .taken) (sym (c .before .is-every-letter .ensures rs t e n) ∙ not-true _ (c .if1 .taken)))
+returns c = λ rs t e n. sym (not-allBelow _ _ (c .before .before .before .loop .p) (c .before .before .loop-test .taken) (sym (c .before .is-every-letter .ensures rs t e n) ∙ not-true _ (c .if1 .taken)))
 
 -- src/question.rt:369:9
 add-p : tie.Need-add-p Inv-loop μ-loop
@@ -52,7 +52,7 @@ loop-again c = (omega arith, λ rs t e n. below-more _ _ (c .before .before .bef
 -- src/question.rt:359:1
 returns-2 : tie.Need-returns-2 Inv-loop μ-loop
 unfolding everyHead
-returns-2 c = λ rs t e n. sym (all-below _ _ (λ k h. c .before .loop .inv .1 rs t e n k (omega arith)))
+returns-2 c = λ rs t e n. sym (at-allBelow _ _ (λ k h. c .before .loop .inv .1 rs t e n k (omega arith)))
 
 pub is-every-head-spec : {M : Type 1} → statement M
 is-every-head-spec =

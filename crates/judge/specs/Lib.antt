@@ -1,0 +1,12 @@
+pub mod Worth
+pub mod Run
+pub mod Verdict
+pub mod Play
+pub mod Tabulate
+pub mod Within
+pub mod Range
+pub mod RunLaws
+pub mod Target
+pub mod Advice
+pub mod Accepted
+pub mod PositionLaws

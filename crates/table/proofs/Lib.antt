@@ -1,0 +1,3 @@
+pub mod Checked
+pub mod Halving
+pub mod Pass
