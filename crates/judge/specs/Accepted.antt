@@ -1,32 +1,30 @@
 -- What the judge answers over a table that passes question 13: the rule it names is one of the position's head, and question 15
 -- is never met.
-use Prim.Native.Nat.{ℕ, zero, suc, _+_, _-_, _*_, _^_, _<_, _≤_}
-use native.Mathlib.Nat.{le-refl, le-trans, mul-le-mul-right}
+use Prim.Native.Nat.{ℕ, suc, _-_, _*_, _<_, _≤_}
+use native.Mathlib.Nat.{mul-le-mul-right}
 use native.Mathlib.Omega.{arith}
-use mathlib.Core.Path.{_≡_, refl, sym, _∙_, ap, ap₂, subst}
+use mathlib.Core.Path.{_≡_, refl, sym, _∙_, ap, ap₂}
 use mathlib.Core.Logic.{_⊎_, inl, inr, ⊎-elim}
-use mathlib.Core.Bool.{Bool, true, false, cond, not, _&&_}
+use mathlib.Core.Bool.{Bool, true, false, cond}
 use mathlib.Core.List.{List, [], _∷_}
 use mathlib.Core.Option.{Option, none, some}
 use lib.ListN.{length}
 use lib.Dec.{ltb, eqb}
-use lib.Pow.{pow-pos}
-use borrow.Author.Tests.{ltb-true, ltb-false, lt-ltb, eqb-true, eqb-false, eq-eqb, ne-eqb}
+use borrow.Author.Tests.{lt-ltb, eqb-false}
 use Rattle.game.specs.Limits.{maxRounds, maxStack}
-use Rattle.game.specs.Sets.{has}
 use Rattle.game.specs.Game.{PushdownGame}
-use Rattle.game.specs.Outcome.{Outcome, done, refused}
+use Rattle.game.specs.Outcome.{done}
 use Rattle.game.specs.Position.{form}
 use Rattle.game.specs.Win.{isAbelard}
 use Rattle.table.specs.Table.{Entry, entriesOf, isEloise, isRuleOf, tableForm}
-use Rattle.game.specs.ListLaws.{_∈_, test, clash, both, conj}
+use Rattle.game.specs.ListLaws.{_∈_, test}
 use Rattle.game.specs.SetLaws.{has-from}
 use Rattle.table.specs.FormLaws.{InForm, cond-done, accepted}
-use Rattle.judge.specs.Worth.{Automaton, automaton, baseWeight, largestBelow, entryWorth, stepWorth, worths, worth, adviceAt, entryOfHead}
-use Rattle.judge.specs.Within.{AtMost, exact, most-of, First, Within, within-raise, worth-within, within-worth, entry-within}
+use Rattle.judge.specs.Worth.{Automaton, automaton, baseWeight, entryWorth, stepWorth, worths, worth, adviceAt, entryOfHead}
+use Rattle.judge.specs.Within.{AtMost, exact, most-of, Within, worth-within, entry-within}
 use Rattle.judge.specs.Range.{WeightsUpTo, within-range, baseWeight-mono}
 use Rattle.judge.specs.Target.{head-is, zero-or-more, weight-zero}
-use Rattle.judge.specs.Advice.{head-within, within-head, Advised, advice}
+use Rattle.judge.specs.Advice.{head-within, within-head, advice}
 use Rattle.judge.specs.Verdict.{Verdict, lost, target, eloise, abelard, orZero, toMove, verdictOf, verdictOver, verdict, boundLimit, after, verdictOfBytes, judgingGame}
 use Rattle.judge.specs.PositionLaws.{bytes-short}
 

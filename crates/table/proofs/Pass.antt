@@ -13,19 +13,8 @@ use borrow.Author.Tests.{eqb-true}
 use Rattle.game.specs.ListLaws.{both}
 use Rattle.game.specs.Game.{PushdownGame}
 use Rattle.game.specs.Outcome.{Outcome, done, refused}
+use Rattle.table.specs.RowLaws.{three}
 use Rattle.table.specs.Table.{lengthInForm, passes, formFrom, tableForm}
-
--- the words of an entry, and what follows them
-pub three : (words : List ℕ) (i : ℕ) → (i + 1) * 3 ≤ length words → drop (i * 3) words ≡ getD words (i * 3) 0 ∷ getD words (i * 3 + 1) 0 ∷ getD words (i * 3 + 2) 0 ∷ drop ((i + 1) * 3) words
-three words i h =
-    let e : (i + 1) * 3 ≡ suc (suc (suc (i * 3))) = omega arith in
-    let a : i * 3 + 1 ≡ suc (i * 3) = omega arith in
-    let b : i * 3 + 2 ≡ suc (suc (i * 3)) = omega arith in
-    rw (e, a, b)
-    (drop-cons words (i * 3) 0 (omega arith)
-    ∙ ap (getD words (i * 3) 0 ∷_)
-    (drop-cons words (suc (i * 3)) 0 (omega arith)
-    ∙ ap (getD words (suc (i * 3)) 0 ∷_) (drop-cons words (suc (suc (i * 3))) 0 (omega arith))))
 
 module _ (g : PushdownGame) (words : List ℕ) where
   pub opens : lengthInForm (length words) ≡ true → tableForm g words ≡ formFrom g 0 0 0 0 (drop (0 * 3) words)

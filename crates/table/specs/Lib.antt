@@ -1,3 +1,6 @@
 pub mod Table
 pub mod FormLaws
+pub mod Pairwise
+pub mod OrderLaws
 pub mod Rows
+pub mod RowLaws

@@ -1,0 +1,128 @@
+-- The verdict by the number that the code has for the bound.
+use Prim.Native.Nat.{ℕ, zero, suc, _+_, _-_, _^_, _<_, _≤_}
+use mathlib.Core.Path.{_≡_, refl, sym, ap, subst, _∙_}
+use mathlib.Core.Bool.{Bool, true, false, cond, _&&_}
+use mathlib.Core.List.{List, [], _∷_}
+use mathlib.Core.Option.{Option, none, some}
+use native.Mathlib.Omega.{arith}
+use lib.ListN.{length, getD, drop, take, length-drop}
+use lib.Dec.{ltb, eqb}
+use borrow.Author.Tests.{lt-ltb, le-ltb, eq-eqb, ne-eqb}
+use Rattle.game.specs.Limits.{maxStates}
+use Rattle.game.specs.Sets.{has}
+use Rattle.game.specs.ListLaws.{_∈_}
+use Rattle.game.specs.Game.{PushdownGame}
+use Rattle.game.specs.Outcome.{Outcome, done, refused}
+use Rattle.game.specs.Stored.{sizesOf}
+use Rattle.game.specs.Win.{isAbelard}
+use Rattle.game.specs.declared.game.Sizes.{Sizes}
+use Rattle.table.specs.Table.{Entry, entriesOf}
+use Rattle.judge.specs.Worth.{Automaton, noWorth, coded, worthIn, tabulate, step, stepWorth, worths, entryOfHead, entryWorth, worthIs, leastOver, headRule, fieldNumber, adviceAt}
+use Rattle.judge.specs.Tabulate.{tabulate-at, tabulate-length}
+use Rattle.judge.specs.Verdict.{Verdict, lost, target, eloise, abelard, orZero, toMove, verdictOf, verdictOver, verdict}
+use Rattle.judge.specs.Machine.{machine, automatonOf, Tame, Young, Low, Lows}
+use Rattle.judge.specs.Judged.{Fielded}
+use Rattle.judge.specs.CodedLaws.{Held, coded-up-to, coded-none, coded-some}
+use Rattle.judge.specs.MachineLaws.{machine-at, low-held}
+use Rattle.judge.specs.Within.{leastOver-is, tested-is}
+use Rattle.judge.proofs.Recursion.{below-top, top-letter, length-worths, lows, tame-worths}
+
+-- the bound of a control state on a stack, by a game's sizes
+abbrev pub boundOf : Sizes → List Entry → ℕ → List ℕ → Option ℕ
+boundOf sizes es p w =
+    stepWorth (automatonOf sizes es) (worths (automatonOf sizes es) (drop 1 w)) p (getD w 0 0)
+
+-- what the code reads of a letter's step is the code of the bound
+module _ (sizes : Sizes) (small : sizes .states ≤ 32) (words : List ℕ) (young : Young words) (p : ℕ) (control : p < sizes .states) (w : List ℕ) (filled : 0 < length w) (short : length w ≤ 256) (below : List ℕ) (b : below ≡ machine (worths (automatonOf sizes (entriesOf words)) (take (length w - 1) (drop 1 w)))) where
+  abbrev A : Automaton
+  A = automatonOf sizes (entriesOf words)
+
+  pub stands : below ≡ machine (worths A (drop 1 w))
+  stands = b ∙ ap (λ (x : List ℕ). machine (worths A x)) (below-top w)
+
+  pub low-rest : Lows (worths A (drop 1 w))
+  low-rest = lows sizes small words young (drop 1 w) (rw length-drop (omega arith))
+
+  pub tamed : Tame below
+  tamed = rw stands (tame-worths sizes small words young (drop 1 w) (rw length-drop (omega arith)))
+
+  module _ (here : List ℕ) (h : (rest : List (Option ℕ)) → below ≡ machine rest → length rest ≡ sizes .states → Lows rest → here ≡ machine (step A (getD w 0 0) rest)) where
+    stepped : here ≡ machine (step A (getD w 0 0) (worths A (drop 1 w)))
+    stepped = h (worths A (drop 1 w)) stands (length-worths A (drop 1 w)) low-rest
+
+    pub bound-coded : getD here p 0 ≡ coded (boundOf sizes (entriesOf words) p w)
+    unfolding step
+    bound-coded =
+        let f : ℕ → Option ℕ = λ q. stepWorth A (worths A (drop 1 w)) q (getD w 0 0) in
+        rw stepped
+        (machine-at (tabulate f (sizes .states)) p (omega (arith, tabulate-length f (sizes .states))) (omega arith)
+        ∙ ap coded (tabulate-at f (sizes .states) p none control))
+
+  pub bound-low : Low (boundOf sizes (entriesOf words) p w)
+  unfolding worths step
+  bound-low =
+      let f : ℕ → Option ℕ = λ q. stepWorth A (worths A (drop 1 w)) q (getD w 0 0) in
+      let l = lows sizes small words young (getD w 0 0 ∷ drop 1 w) (omega (arith, length-drop 1 w)) p in
+      subst Low (tabulate-at f (sizes .states) p none control) l
+
+-- a least rule field is that of an entry
+fielded : (A : Automaton) (rest : List (Option ℕ)) (p a b : ℕ) (es : List Entry) → ((x : Entry) → x ∈ es → x .rule < 2 ^ 32) → Fielded (leastOver (headRule A rest p a b) es)
+unfolding headRule
+fielded A rest p a b es small n y =
+    let f = leastOver-is (headRule A rest p a b) es y in
+    let t = tested-is (entryOfHead p a (f .0) && worthIs b (entryWorth A rest (f .0))) (some (f .0 .rule)) (f .2) in
+    let same : f .0 .rule ≡ n = cc (t .1) in
+    omega (arith, small (f .0) (f .1), same)
+
+module _ (g : PushdownGame) (sizes : Sizes) (e : sizes ≡ sizesOf g) (es : List Entry) (p : ℕ) (w : List ℕ) (filled : 0 < length w) (number : ℕ) (c : number ≡ coded (boundOf sizes es p w)) (low : Low (boundOf sizes es p w)) where
+  bound : Option ℕ
+  bound = boundOf (sizesOf g) es p w
+
+  is-code : number ≡ coded bound
+  unfolding bound
+  is-code = c ∙ ap (λ (s : Sizes). coded (boundOf s es p w)) e
+
+  held : Held bound
+  unfolding bound
+  held = low-held _ (subst (λ (s : Sizes). Low (boundOf s es p w)) e low)
+
+  by-bound : (x : Option ℕ) → bound ≡ x → verdict g es p w ≡ verdictOf (isAbelard g p) (adviceAt (automatonOf (sizesOf g) es) (worths (automatonOf (sizesOf g) es) (drop 1 w)) p (getD w 0 0) x) x
+  unfolding bound verdict verdictOver
+  by-bound x y = ap (verdict g es p) (top-letter w (λ z. omega arith)) ∙ rw y
+
+  pub is-lost : number ≡ 18446744073709551615 → done (lost 0) ≡ verdict g es p w
+  unfolding verdictOf
+  is-lost h = sym (by-bound none (coded-none held (sym is-code ∙ h)))
+
+  module _ (n : number ≡ 18446744073709551615 → ⊥) where
+    strict : number < noWorth
+    strict = let u = coded-up-to held in omega (arith, is-code)
+
+    some-bound : bound ≡ some number
+    some-bound = coded-some held (omega (arith, is-code, strict)) ∙ ap some (sym is-code)
+
+    pub is-over : 2 ^ 50 ≤ number → refused 15 0 ≡ verdict g es p w
+    unfolding verdictOf
+    is-over h = sym (by-bound (some number) some-bound ∙ rw (le-ltb number (2 ^ 50) h))
+
+    module _ (h : number < 2 ^ 50) where
+      pub is-target : number ≡ 0 → done target ≡ verdict g es p w
+      unfolding verdictOf
+      is-target z = sym (by-bound (some number) some-bound ∙ rw (lt-ltb number (2 ^ 50) h, eq-eqb number 0 z))
+
+      module _ (z : number ≡ 0 → ⊥) (owner : Bool) (o : owner ≡ has (sizes .abelard) p) where
+        owned : isAbelard g p ≡ owner
+        owned = sym (o ∙ ap (λ (s : Sizes). has (s .abelard) p) e)
+
+        pub is-abelard : owner ≡ true → done (abelard number) ≡ verdict g es p w
+        unfolding verdictOf toMove
+        is-abelard t = sym (by-bound (some number) some-bound ∙ rw (lt-ltb number (2 ^ 50) h, ne-eqb number 0 z, owned ∙ t))
+
+        pub is-eloise : owner ≡ false → (field : ℕ) → field ≡ coded (leastOver (headRule (automatonOf sizes es) (worths (automatonOf sizes es) (drop 1 w)) p (getD w 0 0) number) es) → (rule : ℕ) → ((x : Option ℕ) → field ≡ coded x → Fielded x → rule ≡ orZero (fieldNumber x)) → ((x : Entry) → x ∈ es → x .rule < 2 ^ 32) → done (eloise rule number) ≡ verdict g es p w
+        unfolding verdictOf toMove adviceAt
+        is-eloise t field f rule r small =
+            let least : Option ℕ = leastOver (headRule (automatonOf (sizesOf g) es) (worths (automatonOf (sizesOf g) es) (drop 1 w)) p (getD w 0 0) number) es in
+            let q = f ∙ ap (λ (s : Sizes). coded (leastOver (headRule (automatonOf s es) (worths (automatonOf s es) (drop 1 w)) p (getD w 0 0) number) es)) e in
+            let told : rule ≡ orZero (fieldNumber least) = r least q (fielded (automatonOf (sizesOf g) es) (worths (automatonOf (sizesOf g) es) (drop 1 w)) p (getD w 0 0) number es small) in
+            ap (λ (k : ℕ). done (eloise k number)) told
+            ∙ sym (by-bound (some number) some-bound ∙ rw (lt-ltb number (2 ^ 50) h, ne-eqb number 0 z, owned ∙ t))

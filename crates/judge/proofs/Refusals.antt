@@ -1,0 +1,110 @@
+-- The refusals before the verdict, and what is known once they are passed.
+use Prim.Native.Nat.{ℕ, _+_, _*_, _-_, _<_, _≤_}
+use mathlib.Core.Path.{_≡_, refl, sym, ap, _∙_}
+use mathlib.Core.Bool.{true, false}
+use mathlib.Core.List.{List, [], _∷_}
+use native.Mathlib.Omega.{arith}
+use lib.ListN.{length, getD, drop, take, length-drop}
+use lib.Dec.{ltb}
+use borrow.Author.Tests.{ltb-true, ltb-false}
+use types.Run.{OneOf, miss}
+use denote.Enum.Declared.{tagOf}
+use Rattle.game.specs.Game.{PushdownGame}
+use Rattle.game.specs.GoodGame.{Ranged, Good}
+use Rattle.game.specs.Outcome.{Outcome, done, refused, answer, said}
+use Rattle.game.specs.Position.{form}
+use Rattle.game.specs.Questions.{reading}
+use Rattle.game.specs.Stored.{stored, sizesOf, Reports}
+use Rattle.game.specs.Held.{Read, was-read}
+use Rattle.game.specs.declared.game.Answer.{Answer}
+use Rattle.game.specs.declared.game.Answer.the-variants.{Done, Refused}
+use Rattle.game.specs.declared.game.Reading.{Reading}
+use Rattle.game.specs.declared.game.Sizes.{Sizes}
+use Rattle.game.proofs.game.Answer as AnswerIs
+use Rattle.table.specs.Table.{Entry, entriesOf, tableForm}
+use Rattle.table.specs.FormLaws.{accepted, cond-done}
+use Rattle.judge.specs.Verdict.{Verdict, after, verdict, verdictOfBytes, judgingGame, judging}
+use Rattle.judge.specs.PositionLaws.{cond-not}
+use Rattle.judge.proofs.Recursion.{below-top, top-letter}
+use Rattle.judge.specs.Judged.{judged, refusedAs}
+use Rattle.judge.specs.Machine.{Young}
+
+-- an answer that is not done refuses whatever comes after it
+pub refusal-told : {A : Type 0} (o : Outcome A) (a : Answer) → said a ≡ answer o → OneOf (1 ∷ []) (tagOf AnswerIs.the-type a) → (next : A → Outcome Verdict) → judged (refusedAs a) ≡ after o next
+unfolding after
+refusal-told (done x) Done e t next = absurd (miss (1 ∷ []) 0 tt t)
+refusal-told (refused n p) Done e t next = absurd (miss (1 ∷ []) 0 tt t)
+refusal-told (done x) (Refused q k) e t next = absurd (let z : _≡_ {A = ℕ} 0 1 = cc in omega arith)
+refusal-told (refused n p) (Refused q k) e t next = cc
+
+pub plain : (o : Outcome (Unit {0})) → answer o ≡ o
+plain (done u) = refl
+plain (refused n p) = refl
+
+-- what a position in form says of its bytes
+pub record InBytes (control : ℕ) (bytes : List ℕ) : Type 0 where
+  pub many : 2 ≤ length bytes
+  pub few : length bytes ≤ 257
+  pub state : getD bytes 0 0 < control
+
+pub in-bytes : (control letters : ℕ) (bytes : List ℕ) → form control letters bytes ≡ done tt → InBytes control bytes
+unfolding form
+in-bytes control letters bytes e =
+    let a = cond-not (ltb (length bytes) 2) _ 14 0 e in
+    let b = cond-not (ltb 257 (length bytes)) _ 14 0 (a .1) in
+    let c = cond-done (ltb (getD bytes 0 0) control) _ 14 0 (b .1) in
+    record { many = ltb-false _ _ (a .0); few = ltb-false _ _ (b .0); state = ltb-true _ _ (c .0) }
+
+module _ (g : PushdownGame) (words position : List ℕ) where
+  -- 13 is answered no
+  pub no-table : (a : Answer) → said a ≡ tableForm g words → OneOf (1 ∷ []) (tagOf AnswerIs.the-type a) → judged (refusedAs a) ≡ judgingGame g words position
+  unfolding judgingGame
+  no-table a e t = refusal-told (tableForm g words) a (e ∙ sym (plain (tableForm g words))) t _
+
+  module _ (formed : Answer) (e : said formed ≡ tableForm g words) (d : formed ≡ Done) where
+    pub table-done : tableForm g words ≡ done tt
+    table-done = sym e ∙ ap said d
+
+    -- 14 is answered no
+    pub no-position : (a : Answer) → said a ≡ form (g .control) (g .letters) position → OneOf (1 ∷ []) (tagOf AnswerIs.the-type a) → judged (refusedAs a) ≡ judgingGame g words position
+    unfolding judgingGame after
+    no-position a f t = rw table-done (refusal-told (form (g .control) (g .letters) position) a (f ∙ sym (plain (form (g .control) (g .letters) position))) t _)
+
+    -- both are passed
+    pub both-passed : form (g .control) (g .letters) position ≡ done tt → judgingGame g words position ≡ verdict g (entriesOf words) (getD position 0 0) (take (length position - 1) (drop 1 position))
+    unfolding judgingGame after verdictOfBytes
+    both-passed f =
+        rw (table-done, f)
+        (ap (verdictOfBytes g (entriesOf words)) (top-letter position (λ z. omega (arith, in-bytes _ _ position f .many)))
+        ∙ ap (verdict g (entriesOf words) (getD position 0 0)) (sym (below-top position)))
+
+-- every used entry of a table in form was born within the rounds
+pub young : (g : PushdownGame) (words : List ℕ) → tableForm g words ≡ done tt → Young words
+young g words e x m = accepted g words e x m .date
+
+-- a file that is refused
+pub no-file : (file words position : List ℕ) (r : Reading) → Reports (reading file) r → (a : Answer) → a ≡ r .answer → OneOf (1 ∷ []) (tagOf AnswerIs.the-type a) → judged (refusedAs a) ≡ judging file words position
+unfolding judging
+no-file file words position r h a e t = refusal-told (reading file) a (ap said e ∙ h .answers) t _
+
+-- and one that was read
+pub file-read : (file words position : List ℕ) (r : Reading) (x : Read file r) → judging file words position ≡ judgingGame (x .game) words position
+unfolding judging after
+file-read file words position r x = rw (x .reads)
+
+-- the position's test by a game's sizes
+pub by-game : (g : PushdownGame) (sizes : Sizes) (position : List ℕ) → sizes ≡ sizesOf g → (a : Answer) → said a ≡ form (sizes .control) (sizes .letters) position → said a ≡ form (g .control) (g .letters) position
+by-game g sizes position e a f = f ∙ ap (λ (s : Sizes). form (s .control) (s .letters) position) e
+
+-- what the verdict asks
+pub ready : (g : PushdownGame) → Ranged g → (sizes : Sizes) → sizes ≡ sizesOf g → (words position : List ℕ) → tableForm g words ≡ done tt → InBytes (sizes .control) position → (getD position 0 0 < sizes .states) × (sizes .states ≤ 32) × (0 < length (take (length position - 1) (drop 1 position))) × (length (take (length position - 1) (drop 1 position)) ≤ 256) × Young words
+ready g r sizes e words position t b =
+    let n = ap length (below-top position) ∙ length-drop 1 position in
+    let c = ap (λ (s : Sizes). s .control) e in
+    let k = ap (λ (s : Sizes). s .states) e in (
+      omega (arith, b .state, r .control),
+      omega (arith, r .states),
+      omega (arith, b .many),
+      omega (arith, b .few),
+      young g words t,
+    )

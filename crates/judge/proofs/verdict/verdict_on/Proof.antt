@@ -1,0 +1,134 @@
+use native.Mathlib.Omega.{arith}
+use Rattle.judge.proofs.Recursion.{length-worths}
+use Rattle.judge.proofs.Rules.{field-small}
+use Rattle.judge.proofs.Bounds.{stands, low-rest, tamed, bound-coded, bound-low, is-lost, is-over, is-target, is-abelard, is-eloise}
+use borrow.Author.Needs.{needs}
+use Rattle.judge.proofs.verdict.verdict_on.Statement.{statement}
+use Rattle.judge.proofs.verdict.verdict_on.Tie as tie
+use Rattle.judge.proofs.verdict.verdict_on.Reads as reads
+use Rattle.judge.proofs.verdict.verdict_on.Lts as lts
+use Rattle.game.proofs.has_state.Reads as has-state-reads
+use Rattle.judge.proofs.verdict.least_rule.Reads as least-rule-reads
+use Rattle.judge.proofs.verdict.rule_number.Reads as rule-number-reads
+use Rattle.judge.proofs.worth.letter_step.Reads as letter-step-reads
+use Rattle.judge.proofs.worth.worths.Reads as worths-reads
+
+-- src/verdict.rt:44:15
+shared-slice-read-top : tie.Need-shared-slice-read-top
+shared-slice-read-top c = search needs
+
+-- src/verdict.rt:45:38
+sub-worths : tie.Need-sub-worths
+sub-worths c = search needs
+
+-- src/verdict.rt:45:38
+part-worths-start : tie.Need-part-worths-start
+part-worths-start c = search needs
+
+-- src/verdict.rt:45:38
+part-worths-end : tie.Need-part-worths-end
+part-worths-end c = search needs
+
+-- src/verdict.rt:45:9
+worths-requires : tie.Need-worths-requires
+worths-requires c κs = search needs
+
+-- src/verdict.rt:46:16
+letter-step-requires : tie.Need-letter-step-requires
+letter-step-requires c κs =
+    (c .before .before .before .before .before .pre .1, c .before .before .before .before .before .pre .4, tamed (c .before .before .before .before .before .args .sizes) (c .before .before .before .before .before .pre .1) _ (c .before .before .before .before .before .pre .4) _ (c .before .before .before .before .before .pre .0) (c .before .before .before .before .before .args .stack .now) (c .before .before .before .before .before .pre .2) (c .before .before .before .before .before .pre .3) _ (c .worths .ensures))
+
+-- src/verdict.rt:48:17
+mul-bound : tie.Need-mul-bound
+mul-bound c = search needs
+
+-- src/verdict.rt:48:17
+array-read-bound : tie.Need-array-read-bound
+array-read-bound c = search needs
+
+-- src/verdict.rt:50:9
+returns : tie.Need-returns
+returns c =
+    λ g e.
+    is-lost g (c .before .before .before .before .before .before .before .args .sizes) e _ _ _ (c .before .before .before .before .before .before .before .pre .2) _ (bound-coded (c .before .before .before .before .before .before .before .args .sizes) (c .before .before .before .before .before .before .before .pre .1) _ (c .before .before .before .before .before .before .before .pre .4) _ (c .before .before .before .before .before .before .before .pre .0) (c .before .before .before .before .before .before .before .args .stack .now) (c .before .before .before .before .before .before .before .pre .2) (c .before .before .before .before .before .before .before .pre .3) _ (c .before .before .worths .ensures) _ (c .before .letter-step .ensures)) (bound-low (c .before .before .before .before .before .before .before .args .sizes) (c .before .before .before .before .before .before .before .pre .1) _ (c .before .before .before .before .before .before .before .pre .4) _ (c .before .before .before .before .before .before .before .pre .0) (c .before .before .before .before .before .before .before .args .stack .now) (c .before .before .before .before .before .before .before .pre .2) (c .before .before .before .before .before .before .before .pre .3) _ (c .before .before .worths .ensures))
+    (c .if1 .taken)
+
+-- src/verdict.rt:53:9
+returns-2 : tie.Need-returns-2
+returns-2 c =
+    λ g e.
+    is-over g (c .before .before .before .before .before .before .before .before .args .sizes) e _ _ _ (c .before .before .before .before .before .before .before .before .pre .2) _ (bound-coded (c .before .before .before .before .before .before .before .before .args .sizes) (c .before .before .before .before .before .before .before .before .pre .1) _ (c .before .before .before .before .before .before .before .before .pre .4) _ (c .before .before .before .before .before .before .before .before .pre .0) (c .before .before .before .before .before .before .before .before .args .stack .now) (c .before .before .before .before .before .before .before .before .pre .2) (c .before .before .before .before .before .before .before .before .pre .3) _ (c .before .before .before .worths .ensures) _ (c .before .before .letter-step .ensures)) (bound-low (c .before .before .before .before .before .before .before .before .args .sizes) (c .before .before .before .before .before .before .before .before .pre .1) _ (c .before .before .before .before .before .before .before .before .pre .4) _ (c .before .before .before .before .before .before .before .before .pre .0) (c .before .before .before .before .before .before .before .before .args .stack .now) (c .before .before .before .before .before .before .before .before .pre .2) (c .before .before .before .before .before .before .before .before .pre .3) _ (c .before .before .before .worths .ensures))
+    (c .before .if1 .left)
+    (c .if2 .taken)
+
+-- src/verdict.rt:59:9
+returns-3 : tie.Need-returns-3
+returns-3 c =
+    λ g e.
+    is-target g (c .before .before .before .before .before .before .before .before .before .args .sizes) e _ _ _ (c .before .before .before .before .before .before .before .before .before .pre .2) _ (bound-coded (c .before .before .before .before .before .before .before .before .before .args .sizes) (c .before .before .before .before .before .before .before .before .before .pre .1) _ (c .before .before .before .before .before .before .before .before .before .pre .4) _ (c .before .before .before .before .before .before .before .before .before .pre .0) (c .before .before .before .before .before .before .before .before .before .args .stack .now) (c .before .before .before .before .before .before .before .before .before .pre .2) (c .before .before .before .before .before .before .before .before .before .pre .3) _ (c .before .before .before .before .worths .ensures) _ (c .before .before .before .letter-step .ensures)) (bound-low (c .before .before .before .before .before .before .before .before .before .args .sizes) (c .before .before .before .before .before .before .before .before .before .pre .1) _ (c .before .before .before .before .before .before .before .before .before .pre .4) _ (c .before .before .before .before .before .before .before .before .before .pre .0) (c .before .before .before .before .before .before .before .before .before .args .stack .now) (c .before .before .before .before .before .before .before .before .before .pre .2) (c .before .before .before .before .before .before .before .before .before .pre .3) _ (c .before .before .before .before .worths .ensures))
+    (c .before .before .if1 .left)
+    (c .before .if2 .left)
+    (c .if3 .taken)
+
+-- src/verdict.rt:61:8
+has-state-requires : tie.Need-has-state-requires
+has-state-requires c κs = search needs
+
+-- src/verdict.rt:62:9
+returns-4 : tie.Need-returns-4
+returns-4 c =
+    λ g e.
+    is-abelard g (c .before .before .before .before .before .before .before .before .before .before .before .args .sizes) e _ _ _ (c .before .before .before .before .before .before .before .before .before .before .before .pre .2) _ (bound-coded (c .before .before .before .before .before .before .before .before .before .before .before .args .sizes) (c .before .before .before .before .before .before .before .before .before .before .before .pre .1) _ (c .before .before .before .before .before .before .before .before .before .before .before .pre .4) _ (c .before .before .before .before .before .before .before .before .before .before .before .pre .0) (c .before .before .before .before .before .before .before .before .before .before .before .args .stack .now) (c .before .before .before .before .before .before .before .before .before .before .before .pre .2) (c .before .before .before .before .before .before .before .before .before .before .before .pre .3) _ (c .before .before .before .before .before .before .worths .ensures) _ (c .before .before .before .before .before .letter-step .ensures)) (bound-low (c .before .before .before .before .before .before .before .before .before .before .before .args .sizes) (c .before .before .before .before .before .before .before .before .before .before .before .pre .1) _ (c .before .before .before .before .before .before .before .before .before .before .before .pre .4) _ (c .before .before .before .before .before .before .before .before .before .before .before .pre .0) (c .before .before .before .before .before .before .before .before .before .before .before .args .stack .now) (c .before .before .before .before .before .before .before .before .before .before .before .pre .2) (c .before .before .before .before .before .before .before .before .before .before .before .pre .3) _ (c .before .before .before .before .before .before .worths .ensures))
+    (c .before .before .before .before .if1 .left)
+    (c .before .before .before .if2 .left)
+    (c .before .before .if3 .left)
+    _
+    (c .before .has-state .ensures)
+    (c .if4 .taken)
+
+-- src/verdict.rt:64:9
+least-rule-requires : tie.Need-least-rule-requires
+least-rule-requires c κs =
+    (c .before .before .before .before .before .before .before .before .before .before .before .pre .1, c .before .before .before .before .before .before .before .before .before .before .before .pre .4, tamed (c .before .before .before .before .before .before .before .before .before .before .before .args .sizes) (c .before .before .before .before .before .before .before .before .before .before .before .pre .1) _ (c .before .before .before .before .before .before .before .before .before .before .before .pre .4) _ (c .before .before .before .before .before .before .before .before .before .before .before .pre .0) (c .before .before .before .before .before .before .before .before .before .before .before .args .stack .now) (c .before .before .before .before .before .before .before .before .before .before .before .pre .2) (c .before .before .before .before .before .before .before .before .before .before .before .pre .3) _ (c .before .before .before .before .before .before .worths .ensures))
+
+-- src/verdict.rt:66:15
+rule-number-requires : tie.Need-rule-number-requires
+rule-number-requires c κs = search needs
+
+-- src/verdict.rt:38:1
+returns-5 : tie.Need-returns-5
+returns-5 c =
+    λ g e.
+    is-eloise g (c .before .before .before .before .before .before .before .before .before .before .before .before .before .args .sizes) e _ _ _ (c .before .before .before .before .before .before .before .before .before .before .before .before .before .pre .2) _ (bound-coded (c .before .before .before .before .before .before .before .before .before .before .before .before .before .args .sizes) (c .before .before .before .before .before .before .before .before .before .before .before .before .before .pre .1) _ (c .before .before .before .before .before .before .before .before .before .before .before .before .before .pre .4) _ (c .before .before .before .before .before .before .before .before .before .before .before .before .before .pre .0) (c .before .before .before .before .before .before .before .before .before .before .before .before .before .args .stack .now) (c .before .before .before .before .before .before .before .before .before .before .before .before .before .pre .2) (c .before .before .before .before .before .before .before .before .before .before .before .before .before .pre .3) _ (c .before .before .before .before .before .before .before .before .worths .ensures) _ (c .before .before .before .before .before .before .before .letter-step .ensures)) (bound-low (c .before .before .before .before .before .before .before .before .before .before .before .before .before .args .sizes) (c .before .before .before .before .before .before .before .before .before .before .before .before .before .pre .1) _ (c .before .before .before .before .before .before .before .before .before .before .before .before .before .pre .4) _ (c .before .before .before .before .before .before .before .before .before .before .before .before .before .pre .0) (c .before .before .before .before .before .before .before .before .before .before .before .before .before .args .stack .now) (c .before .before .before .before .before .before .before .before .before .before .before .before .before .pre .2) (c .before .before .before .before .before .before .before .before .before .before .before .before .before .pre .3) _ (c .before .before .before .before .before .before .before .before .worths .ensures))
+    (c .before .before .before .before .before .before .if1 .left)
+    (c .before .before .before .before .before .if2 .left)
+    (c .before .before .before .before .if3 .left)
+    _
+    (c .before .before .before .has-state .ensures)
+    (c .before .before .if4 .left)
+    _
+    (c .before .least-rule .ensures _ (stands (c .before .before .before .before .before .before .before .before .before .before .before .before .before .args .sizes) (c .before .before .before .before .before .before .before .before .before .before .before .before .before .pre .1) _ (c .before .before .before .before .before .before .before .before .before .before .before .before .before .pre .4) _ (c .before .before .before .before .before .before .before .before .before .before .before .before .before .pre .0) (c .before .before .before .before .before .before .before .before .before .before .before .before .before .args .stack .now) (c .before .before .before .before .before .before .before .before .before .before .before .before .before .pre .2) (c .before .before .before .before .before .before .before .before .before .before .before .before .before .pre .3) _ (c .before .before .before .before .before .before .before .before .worths .ensures)) (length-worths _ _) (low-rest (c .before .before .before .before .before .before .before .before .before .before .before .before .before .args .sizes) (c .before .before .before .before .before .before .before .before .before .before .before .before .before .pre .1) _ (c .before .before .before .before .before .before .before .before .before .before .before .before .before .pre .4) _ (c .before .before .before .before .before .before .before .before .before .before .before .before .before .pre .0) (c .before .before .before .before .before .before .before .before .before .before .before .before .before .args .stack .now) (c .before .before .before .before .before .before .before .before .before .before .before .before .before .pre .2) (c .before .before .before .before .before .before .before .before .before .before .before .before .before .pre .3) _ (c .before .before .before .before .before .before .before .before .worths .ensures)) (omega (arith, c .before .before .before .before .before .if2 .left)))
+    _
+    (c .rule-number .ensures)
+    (field-small _ (λ k. c .before .before .before .before .before .before .before .before .before .before .before .before .shared-slice-known .given k .fits))
+
+pub verdict-on-spec : {M : Type 1} → statement M
+verdict-on-spec =
+    tie.close
+    (tie.spec
+    shared-slice-read-top
+    sub-worths
+    part-worths-start
+    part-worths-end
+    worths-requires
+    letter-step-requires
+    mul-bound
+    array-read-bound
+    returns
+    returns-2
+    returns-3
+    has-state-requires
+    returns-4
+    least-rule-requires
+    rule-number-requires
+    returns-5)
