@@ -5,13 +5,13 @@ use native.Mathlib.Nat.{not-suc-le-zero}
 use native.Mathlib.Omega.{arith}
 use mathlib.Core.Path.{_≡_, refl, sym, subst}
 use mathlib.Core.Logic.{⊎-elim}
-use mathlib.Core.Bool.{true}
+use mathlib.Core.Bool.{true, false}
 use mathlib.Core.List.{List, [], _∷_, _++_, map, List·Memᴰ·head, List·Memᴰ·tail, List·Memᴰ·cases-cons, List·Memᴰ·not-nil, List·Memᴰ·append-cases, List·Memᴰ·eq-of-singleton, Memᴰ·append-left, Memᴰ·append-right}
 use lib.ListN.{length}
 use Rattle.game.specs.Sets.{has, single, union}
 use Rattle.game.specs.Game.{filter}
 use Rattle.table.specs.Table.{Entry}
-use Rattle.game.specs.ListLaws.{_∈_, clash, below-suc, filter-in, in-filter, map-in, in-map, flatMap-in, in-flatMap}
+use Rattle.game.specs.ListLaws.{_∈_, test, clash, below-suc, filter-in, in-filter, map-in, in-map, flatMap-in, in-flatMap}
 use Rattle.game.specs.SetLaws.{union-has, left-union, right-union, none-has, single-has, has-single}
 use Rattle.table.specs.Pairwise.{Pairwise, pairwise-append}
 use Rattle.judge.specs.Worth.{Automaton, entryOfHead}
@@ -40,11 +40,25 @@ below-pairwise (suc n) =
 
 pub members-in : (n set : ℕ) {s : ℕ} → s ∈ members n set → (s < n) × (has set s ≡ true)
 unfolding members
-members-in n set m = let r = filter-in (has set) (below n) m in (below-in n (r .0), r .1)
+members-in zero set m = absurd (List·Memᴰ·not-nil m)
+members-in (suc n) set {s} m =
+    ⊎-elim
+    (λ (t : has set n ≡ true).
+    ⊎-elim (λ (e : s ≡ n). (omega arith, rw e t)) (λ l. let r = members-in n set l in (omega arith, r .1))
+    (List·Memᴰ·cases-cons (rw t at m)))
+    (λ (t : has set n ≡ false). let r = members-in n set (rw t at m) in (omega arith, r .1))
+    (test (has set n))
 
 pub in-members : (n set : ℕ) {s : ℕ} → s < n → has set s ≡ true → s ∈ members n set
 unfolding members
-in-members n set l h = in-filter (has set) (in-below n l) h
+in-members zero set l h = absurd (omega arith)
+in-members (suc n) set {s} l h =
+    ⊎-elim
+    (λ (k : s < n).
+    ⊎-elim (λ (t : has set n ≡ true). rw t (List·Memᴰ·tail (in-members n set k h))) (λ (t : has set n ≡ false). rw t (in-members n set k h))
+    (test (has set n)))
+    (λ (e : s ≡ n). rw (rw e at h) (List·Memᴰ·head e))
+    (below-suc l)
 
 pub setsOf-in : (table : List Entry) (q a : ℕ) {x : ℕ} → x ∈ setsOf table q a
     → (e : Entry) × e ∈ table × (entryOfHead q a e ≡ true) × (x ≡ e .set)
