@@ -53,6 +53,19 @@ stored g =
       targets = padded (maxTargets * targetStride) (targetWords (g .targets));
     }
 
+-- the sizes of a game as the code holds it; of a stored game they are those of `sizesOf`
+abbrev pub heldSizes : Game → Sizes
+heldSizes game =
+    record
+      { control = game .control
+      ; states = game .states
+      ; letters = game .letters
+      ; abelard = game .abelard
+      ; finals = game .finals
+      ; rulecount = game .rulecount
+      ; targetcount = game .targetcount
+      }
+
 abbrev pub sizesOf : PushdownGame → Sizes
 sizesOf g =
     record {

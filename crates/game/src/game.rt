@@ -2,9 +2,10 @@
 use crate::command::Command;
 ghost use mathlib.Core.Path.{_≡_};
 ghost use Prim.Native.Nat.{_<_};
+ghost use Rattle.game.specs.Limits.{maxRules, maxTargets};
 ghost use Rattle.game.specs.Game.{PushdownGame, emptyGame};
 ghost use Rattle.game.specs.Questions.{Room, add};
-ghost use Rattle.game.specs.Stored.{stored, sizesOf, limitsAre};
+ghost use Rattle.game.specs.Stored.{stored, heldSizes, limitsAre};
 ghost use Rattle.game.specs.declared.command.Command.the-variants.{Rule, Target};
 
 // A game by value. Rules and target transitions are flat, one after the other in file order; what is not used is 0.
@@ -102,7 +103,7 @@ impl Game {
 
     // What the game holds beside its rules and target transitions.
     pub fn sizes(self) -> Sizes
-        ensures { λ r. ⌜ ((g : PushdownGame) → self ≡ stored g → r ≡ sizesOf g) ⌝ }
+        ensures { λ r. ⌜ r ≡ heldSizes self ⌝ }
     {
         Sizes {
             control: self.control,
@@ -171,7 +172,7 @@ impl Game {
     }
 
     fn with_rule(self, from: u8, top: u8, to: u8, count: u8, above: u8, below: u8) -> Game
-        requires { ⌜ self .rulecount < 256 ⌝ }
+        requires { ⌜ self .rulecount < maxRules ⌝ }
         ensures { λ r. ⌜ ((g : PushdownGame) → self ≡ stored g → r ≡ stored (add g (Rule from top to count above below))) ⌝ }
     {
         let stored = self.rulecount;
@@ -188,7 +189,7 @@ impl Game {
     }
 
     fn with_target(self, state: u8, letter: u8, set: u32) -> Game
-        requires { ⌜ self .targetcount < 256 ⌝ }
+        requires { ⌜ self .targetcount < maxTargets ⌝ }
         ensures { λ r. ⌜ ((g : PushdownGame) → self ≡ stored g → r ≡ stored (add g (Target state letter set))) ⌝ }
     {
         let stored = self.targetcount;

@@ -6,6 +6,7 @@ ghost use mathlib.Core.Bool.{not, true};
 ghost use mathlib.Core.List.{List, _++_};
 ghost use Prim.Native.Nat.{ℕ, _<_, _≤_, _+_, _*_};
 ghost use lib.ListN.{length, getD};
+ghost use Rattle.game.specs.Limits.{maxStates, maxRules, maxTargets, ruleStride, targetStride};
 ghost use Rattle.game.specs.Sets.{has, within};
 ghost use Rattle.game.specs.Game.{PushdownGame, Rule, Transition, wordOf, ofHead};
 ghost use Rattle.game.specs.Stored.{stored, ruleBytes, ruleAt, targetWords, targetAt};
@@ -33,7 +34,7 @@ ghost use Rattle.game.specs.Questions.{
 
 // Questions 3 to 7: 0, or the number of the first that is answered no.
 pub fn ask_command(game: Game, command: Command) -> u8
-    requires { ⌜ (game .control ≤ 32) × (game .states ≤ 32) × (game .rulecount ≤ 256) × (game .targetcount ≤ 256) ⌝ }
+    requires { ⌜ (game .control ≤ maxStates) × (game .states ≤ maxStates) × (game .rulecount ≤ maxRules) × (game .targetcount ≤ maxTargets) ⌝ }
     ensures { λ r. ⌜ ((g : PushdownGame) → game ≡ stored g → r ≡ ask g command) ⌝ }
 {
     if !is_in_order(game.states, command) {
@@ -70,7 +71,7 @@ fn is_in_order(states: u8, command: Command) -> bool
 
 // 4. Are operands in range?
 fn is_in_range(control: u8, states: u8, letters: u8, command: Command) -> bool
-    requires { ⌜ (control ≤ 32) × (states ≤ 32) ⌝ }
+    requires { ⌜ (control ≤ maxStates) × (states ≤ maxStates) ⌝ }
     ensures { λ r. ⌜ r ≡ inRange control states letters command ⌝ }
 {
     match command {
@@ -181,7 +182,7 @@ fn are_unused_zero(count: u8, above: u8, below: u8) -> bool
 }
 
 fn is_target_in_range(control: u8, states: u8, letters: u8, state: u8, letter: u8, set: u32) -> bool
-    requires { ⌜ (control ≤ 32) × (states ≤ 32) ⌝ }
+    requires { ⌜ (control ≤ maxStates) × (states ≤ maxStates) ⌝ }
     ensures { λ r. ⌜ r ≡ targetInRange control states letters state letter set ⌝ }
 {
     if states <= state {
@@ -198,7 +199,7 @@ fn is_target_in_range(control: u8, states: u8, letters: u8, state: u8, letter: u
 
 // Only states from `low` to `high` - 1 are in the set.
 pub fn is_within(low: u8, high: u8, set: u32) -> bool
-    requires { ⌜ (low ≤ 32) × (high ≤ 32) ⌝ }
+    requires { ⌜ (low ≤ maxStates) × (high ≤ maxStates) ⌝ }
     ensures { λ r. ⌜ r ≡ within low high set ⌝ }
 {
     let wide = set as u64;
@@ -269,7 +270,7 @@ fn is_bottom_absent(count: u8, above: u8, below: u8) -> bool
 
 // 6. Is the statement new?
 fn is_new(game: Game, command: Command) -> bool
-    requires { ⌜ (game .rulecount ≤ 256) × (game .targetcount ≤ 256) ⌝ }
+    requires { ⌜ (game .rulecount ≤ maxRules) × (game .targetcount ≤ maxTargets) ⌝ }
     ensures { λ r. ⌜ ((g : PushdownGame) → game ≡ stored g → r ≡ isNew g command) ⌝ }
 {
     match command {
@@ -298,7 +299,7 @@ fn is_new(game: Game, command: Command) -> bool
 pub fn has_state(set: u32, s: u8) -> bool
     ensures { λ r. ⌜ r ≡ has set s ⌝ }
 {
-    if 31 < s {
+    if Game::MAX_STATES <= s {
         return false;
     }
     (set >> s) % 2 == 1
@@ -315,7 +316,7 @@ fn is_rule_stored(
     above: u8,
     below: u8,
 ) -> bool
-    requires { ⌜ (stored * 6 ≤ length (now rules)) × (stored ≤ 256) ⌝ }
+    requires { ⌜ (stored * ruleStride ≤ length (now rules)) × (stored ≤ maxRules) ⌝ }
     ensures { λ r. ⌜ ((rs : List Rule) (t : List ℕ) → now (rules .entry) ≡ ruleBytes rs ++ t → stored ≡ length rs
         → r ≡ any (sameRule from top to count above below) rs) ⌝ }
 {
@@ -348,7 +349,7 @@ fn is_rule_at(
     above: u8,
     below: u8,
 ) -> bool
-    requires { ⌜ at + 6 ≤ length (now rules) ⌝ }
+    requires { ⌜ at + ruleStride ≤ length (now rules) ⌝ }
     ensures { λ r. ⌜ r ≡ sameRule from top to count above below (ruleAt (now (rules .entry)) at 0) ⌝ }
 {
     if rules[at] != from {
@@ -371,7 +372,7 @@ fn is_rule_at(
 
 // One of the first `stored` target transitions is this one.
 fn is_target_stored(targets: &[u32], stored: usize, state: u8, letter: u8, set: u32) -> bool
-    requires { ⌜ (stored * 3 ≤ length (now targets)) × (stored ≤ 256) ⌝ }
+    requires { ⌜ (stored * targetStride ≤ length (now targets)) × (stored ≤ maxTargets) ⌝ }
     ensures { λ r. ⌜ ((ts : List Transition) (t : List ℕ) → now (targets .entry) ≡ targetWords ts ++ t → stored ≡ length ts
         → r ≡ any (sameTarget state letter set) ts) ⌝ }
 {
@@ -386,7 +387,7 @@ fn is_target_stored(targets: &[u32], stored: usize, state: u8, letter: u8, set: 
 }
 
 fn is_target_at(targets: &[u32], at: usize, state: u8, letter: u8, set: u32) -> bool
-    requires { ⌜ at + 3 ≤ length (now targets) ⌝ }
+    requires { ⌜ at + targetStride ≤ length (now targets) ⌝ }
     ensures { λ r. ⌜ r ≡ sameTarget state letter set (targetAt (now (targets .entry)) at) ⌝ }
 {
     if targets[at] != state as u32 {
@@ -422,7 +423,7 @@ fn is_room(rules: usize, targets: usize, command: Command) -> bool
 
 // 9. Has every head a rule?
 pub fn is_every_head(rules: &[u8], stored: usize, control: u8, letters: u8) -> bool
-    requires { ⌜ (stored * 6 ≤ length (now rules)) × (stored ≤ 256) ⌝ }
+    requires { ⌜ (stored * ruleStride ≤ length (now rules)) × (stored ≤ maxRules) ⌝ }
     ensures { λ r. ⌜ ((rs : List Rule) (t : List ℕ) → now (rules .entry) ≡ ruleBytes rs ++ t → stored ≡ length rs
         → r ≡ everyHead control letters rs) ⌝ }
 {
@@ -437,7 +438,7 @@ pub fn is_every_head(rules: &[u8], stored: usize, control: u8, letters: u8) -> b
 }
 
 fn is_every_letter(rules: &[u8], stored: usize, p: u8, letters: u8) -> bool
-    requires { ⌜ (stored * 6 ≤ length (now rules)) × (stored ≤ 256) ⌝ }
+    requires { ⌜ (stored * ruleStride ≤ length (now rules)) × (stored ≤ maxRules) ⌝ }
     ensures { λ r. ⌜ ((rs : List Rule) (t : List ℕ) → now (rules .entry) ≡ ruleBytes rs ++ t → stored ≡ length rs
         → r ≡ everyLetter letters p rs) ⌝ }
 {
@@ -453,7 +454,7 @@ fn is_every_letter(rules: &[u8], stored: usize, p: u8, letters: u8) -> bool
 
 // The head (p, a) has a rule.
 fn is_head(rules: &[u8], stored: usize, p: u8, a: u8) -> bool
-    requires { ⌜ (stored * 6 ≤ length (now rules)) × (stored ≤ 256) ⌝ }
+    requires { ⌜ (stored * ruleStride ≤ length (now rules)) × (stored ≤ maxRules) ⌝ }
     ensures { λ r. ⌜ ((rs : List Rule) (t : List ℕ) → now (rules .entry) ≡ ruleBytes rs ++ t → stored ≡ length rs
         → r ≡ any (ofHead p a) rs) ⌝ }
 {
@@ -469,7 +470,7 @@ fn is_head(rules: &[u8], stored: usize, p: u8, a: u8) -> bool
 
 // The rule stored at an offset is one of the head (p, a).
 pub fn is_rule_of(rules: &[u8], at: usize, p: u8, a: u8) -> bool
-    requires { ⌜ at + 6 ≤ length (now rules) ⌝ }
+    requires { ⌜ at + ruleStride ≤ length (now rules) ⌝ }
     ensures { λ r. ⌜ r ≡ ofHead p a (ruleAt (now (rules .entry)) at 0) ⌝ }
 {
     if rules[at] != p {

@@ -10,6 +10,7 @@ use crate::question::is_every_head;
 ghost use mathlib.Core.Path.{_≡_};
 ghost use Prim.Native.Nat.{_<_, _≤_};
 ghost use lib.ListN.{length};
+ghost use Rattle.game.specs.Limits.{maxRules};
 ghost use Rattle.game.specs.Game.{PushdownGame};
 ghost use Rattle.game.specs.Outcome.{refused};
 ghost use Rattle.game.specs.Questions.{ending, reading};
@@ -60,7 +61,7 @@ fn refuse(question: u8, place: usize) -> Reading
 
 // Questions 8 and 9, at FF.
 fn close(size: usize, at: usize, game: Game) -> Reading
-    requires { ⌜ (at < size) × (game .rulecount ≤ 256) ⌝ }
+    requires { ⌜ (at < size) × (game .rulecount ≤ maxRules) ⌝ }
     ensures { λ r. ⌜ ((g : PushdownGame) → game ≡ stored g → Reports (ending size at g) r) ⌝ }
 {
     if at + 1 != size {

@@ -57,7 +57,7 @@ absent-longer e (z ∷ table) none =
     (λ q. absurd (none z (List·Memᴰ·head refl) (sym q)))
     (λ l. ap suc rest)
 
-not-there : (e : Entry) (table : List Entry) → isThere table e ≡ false → Absent (keyOf e) table
+pub not-there : (e : Entry) (table : List Entry) → isThere table e ≡ false → Absent (keyOf e) table
 unfolding isThere
 not-there e table h y i k = clash (in-any (λ (x : Entry). eqb (keyOf x) (keyOf e)) i (eq-eqb (keyOf y) (keyOf e) k)) h
 

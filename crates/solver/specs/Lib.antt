@@ -1,5 +1,8 @@
 pub mod Rounds
 pub mod Solving
+pub mod UnionLaws
+pub mod Enumeration
+pub mod MemberLaws
 pub mod Samples
 pub mod EndsLaws
 pub mod EndsRange
@@ -19,3 +22,6 @@ pub mod Demand2
 pub mod Demand3
 pub mod SamplePlay
 pub mod Growing
+pub mod GrowingLaws
+pub mod Filled
+pub mod InsertLaws

@@ -23,7 +23,7 @@ word-digits : (s l b : ℕ) → firstWord s l b ≡ (b * 256 + l) * 256 + s
 unfolding firstWord
 word-digits s l b = omega arith
 
-word-entry : (s l b set rule : ℕ) → s < 256 → l < 256
+pub word-entry : (s l b set rule : ℕ) → s < 256 → l < 256
     → entryOf (firstWord s l b) set rule ≡ record { state = s; letter = l; set = set; birthdate = b; rule = rule }
 word-entry s l b set rule hs hl =
     let w = word-digits s l b in
@@ -59,7 +59,7 @@ form-bytes g good e f =
     record
     { state = omega (arith, f .state, good .ranged .states); letter = omega (arith, f .letter, good .ranged .letters); filled = f .filled }
 
-first-entry : (e : Entry) → Bytes e → entryOf (firstWord (e .state) (e .letter) (e .birthdate)) (e .set) (e .rule) ≡ e
+pub first-entry : (e : Entry) → Bytes e → entryOf (firstWord (e .state) (e .letter) (e .birthdate)) (e .set) (e .rule) ≡ e
 first-entry e b = word-entry (e .state) (e .letter) (e .birthdate) (e .set) (e .rule) (b .state) (b .letter)
 
 zeros-none : (n : ℕ) → entriesOf (replicate (entryStride * n) 0) ≡ []

@@ -1,6 +1,7 @@
 use Prim.Native.Nat.{_≤_}
 use mathlib.Core.Path.{refl, sym, ap, _∙_}
 use native.Mathlib.Omega.{arith}
+use Rattle.game.specs.Stored.{heldSizes}
 use Rattle.game.specs.Held.{Held, held, Safe, safe}
 use Rattle.game.specs.declared.game.Sizes.{Sizes}
 use Rattle.game.specs.Outcome.{said}
@@ -27,7 +28,7 @@ slice-aggregate-table-form c = search needs
 
 -- src/judging.rt:37:9
 table-form-requires : tie.Need-table-form-requires
-table-form-requires c κs = safe (c .before .before .before .before .before .pre .0) _ _ (held _ (c .before .before .before .before .before .pre .0) _ (c .before .before .before .before .before .pre .1) (c .before .before .before .before .before .pre .2) (c .before .before .sizes .ensures (c .before .before .before .before .before .pre .0) (c .before .before .before .before .before .pre .1)))
+table-form-requires c κs = safe (c .before .before .before .before .before .pre .0) _ _ (held _ (c .before .before .before .before .before .pre .0) _ (c .before .before .before .before .before .pre .1) (c .before .before .before .before .before .pre .2) (c .before .before .sizes .ensures ∙ ap heldSizes (c .before .before .before .before .before .pre .1)))
 
 enum-told : tie.Need-enum-told
 enum-told c = search needs
@@ -42,7 +43,7 @@ refusal-requires c κs = search needs
 
 -- src/judging.rt:39:9
 returns : tie.Need-returns
-returns c = λ g e r. ap judged (c .refusal .ensures) ∙ no-table g _ _ (c .before .before .before .table-form .result) (c .before .before .before .table-form .ensures g (held _ g _ e r (c .before .before .before .before .before .before .sizes .ensures g e))) (c .before .before .match .keys2)
+returns c = λ g e r. ap judged (c .refusal .ensures) ∙ no-table g _ _ (c .before .before .before .table-form .result) (c .before .before .before .table-form .ensures g (held _ g _ e r (c .before .before .before .before .before .before .sizes .ensures ∙ ap heldSizes e))) (c .before .before .match .keys2)
 
 -- src/judging.rt:41:9
 position-form-requires : tie.Need-position-form-requires
@@ -64,9 +65,9 @@ returns-2 : tie.Need-returns-2
 returns-2 c =
     λ g e r.
     ap judged (c .refusal2 .ensures)
-    ∙ no-position g _ _ (c .before .before .before .before .before .before .table-form .result) (c .before .before .before .before .before .before .table-form .ensures g (held _ g _ e r (c .before .before .before .before .before .before .before .before .before .sizes .ensures g e))) (c .before .before .before .before .enum-told .given .1)
+    ∙ no-position g _ _ (c .before .before .before .before .before .before .table-form .result) (c .before .before .before .before .before .before .table-form .ensures g (held _ g _ e r (c .before .before .before .before .before .before .before .before .before .sizes .ensures ∙ ap heldSizes e))) (c .before .before .before .before .enum-told .given .1)
     (c .before .before .before .position-form .result)
-    (by-game g _ _ (c .before .before .before .before .before .before .before .before .before .sizes .ensures g e) (c .before .before .before .position-form .result) (c .before .before .before .position-form .ensures))
+    (by-game g _ _ (c .before .before .before .before .before .before .before .before .before .sizes .ensures ∙ ap heldSizes e) (c .before .before .before .position-form .result) (c .before .before .before .position-form .ensures))
     (c .before .before .match2 .keys2)
 
 -- src/judging.rt:45:30
@@ -88,18 +89,18 @@ part-verdict-on-end c = search needs
 -- src/judging.rt:45:5
 verdict-on-requires : tie.Need-verdict-on-requires
 verdict-on-requires c κs =
-    ready (c .before .before .before .before .before .before .before .before .before .before .before .before .before .pre .0) (c .before .before .before .before .before .before .before .before .before .before .before .before .before .pre .2) _ (c .before .before .before .before .before .before .before .before .before .before .sizes .ensures (c .before .before .before .before .before .before .before .before .before .before .before .before .before .pre .0) (c .before .before .before .before .before .before .before .before .before .before .before .before .before .pre .1)) _ _
-    (table-done (c .before .before .before .before .before .before .before .before .before .before .before .before .before .pre .0) _ (c .before .before .before .before .before .before .before .before .before .before .before .before .before .args .position .now) (c .before .before .before .before .before .before .before .table-form .result) (c .before .before .before .before .before .before .before .table-form .ensures (c .before .before .before .before .before .before .before .before .before .before .before .before .before .pre .0) (held _ (c .before .before .before .before .before .before .before .before .before .before .before .before .before .pre .0) _ (c .before .before .before .before .before .before .before .before .before .before .before .before .before .pre .1) (c .before .before .before .before .before .before .before .before .before .before .before .before .before .pre .2) (c .before .before .before .before .before .before .before .before .before .before .sizes .ensures (c .before .before .before .before .before .before .before .before .before .before .before .before .before .pre .0) (c .before .before .before .before .before .before .before .before .before .before .before .before .before .pre .1)))) (c .before .before .before .before .before .enum-told .given .1))
+    ready (c .before .before .before .before .before .before .before .before .before .before .before .before .before .pre .0) (c .before .before .before .before .before .before .before .before .before .before .before .before .before .pre .2) _ (c .before .before .before .before .before .before .before .before .before .before .sizes .ensures ∙ ap heldSizes (c .before .before .before .before .before .before .before .before .before .before .before .before .before .pre .1)) _ _
+    (table-done (c .before .before .before .before .before .before .before .before .before .before .before .before .before .pre .0) _ (c .before .before .before .before .before .before .before .before .before .before .before .before .before .args .position .now) (c .before .before .before .before .before .before .before .table-form .result) (c .before .before .before .before .before .before .before .table-form .ensures (c .before .before .before .before .before .before .before .before .before .before .before .before .before .pre .0) (held _ (c .before .before .before .before .before .before .before .before .before .before .before .before .before .pre .0) _ (c .before .before .before .before .before .before .before .before .before .before .before .before .before .pre .1) (c .before .before .before .before .before .before .before .before .before .before .before .before .before .pre .2) (c .before .before .before .before .before .before .before .before .before .before .sizes .ensures ∙ ap heldSizes (c .before .before .before .before .before .before .before .before .before .before .before .before .before .pre .1)))) (c .before .before .before .before .before .enum-told .given .1))
     (in-bytes _ _ _ (sym (c .before .before .before .before .position-form .ensures) ∙ ap said (c .before .before .enum-told3 .given .1)))
 
 -- src/judging.rt:30:1
 returns-3 : tie.Need-returns-3
 returns-3 c =
     λ g e r.
-    c .verdict-on .ensures g (c .before .before .before .before .before .before .before .before .before .before .before .sizes .ensures g e)
+    c .verdict-on .ensures g (c .before .before .before .before .before .before .before .before .before .before .before .sizes .ensures ∙ ap heldSizes e)
     ∙ sym
-    (both-passed g _ _ (c .before .before .before .before .before .before .before .before .table-form .result) (c .before .before .before .before .before .before .before .before .table-form .ensures g (held _ g _ e r (c .before .before .before .before .before .before .before .before .before .before .before .sizes .ensures g e))) (c .before .before .before .before .before .before .enum-told .given .1)
-    (sym (by-game g _ _ (c .before .before .before .before .before .before .before .before .before .before .before .sizes .ensures g e) (c .before .before .before .before .before .position-form .result) (c .before .before .before .before .before .position-form .ensures)) ∙ ap said (c .before .before .before .enum-told3 .given .1)))
+    (both-passed g _ _ (c .before .before .before .before .before .before .before .before .table-form .result) (c .before .before .before .before .before .before .before .before .table-form .ensures g (held _ g _ e r (c .before .before .before .before .before .before .before .before .before .before .before .sizes .ensures ∙ ap heldSizes e))) (c .before .before .before .before .before .before .enum-told .given .1)
+    (sym (by-game g _ _ (c .before .before .before .before .before .before .before .before .before .before .before .sizes .ensures ∙ ap heldSizes e) (c .before .before .before .before .before .position-form .result) (c .before .before .before .before .before .position-form .ensures)) ∙ ap said (c .before .before .before .enum-told3 .given .1)))
 
 pub judge-game-spec : {M : Type 1} → statement M
 judge-game-spec =

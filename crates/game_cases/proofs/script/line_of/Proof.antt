@@ -1,0 +1,52 @@
+-- `script::line_of` ends and is safe. The measure is what is left of the script.
+-- Assumes nothing.
+use Prim.Native.Nat.{_-_}
+use borrow.Author.Needs.{needs}
+use lib.ListN.{length}
+use Rattle.game_cases.proofs.script.line_of.Statement.{statement}
+use Rattle.game_cases.proofs.script.line_of.Tie as tie
+
+abbrev Inv-loop : tie.InvT-loop
+Inv-loop script at line₀ i₀ line i = Unit
+
+abbrev μ-loop : tie.MeasureT-loop
+μ-loop script at line₀ i₀ line i = length script - i
+
+loop-holds : tie.Need-loop-holds Inv-loop μ-loop
+loop-holds c = search needs
+
+returns : tie.Need-returns Inv-loop μ-loop
+returns c = search needs
+
+shared-slice-read-if2 : tie.Need-shared-slice-read-if2 Inv-loop μ-loop
+shared-slice-read-if2 c = search needs
+
+up-requires : tie.Need-up-requires Inv-loop μ-loop
+up-requires c κs = search needs
+
+add-i : tie.Need-add-i Inv-loop μ-loop
+add-i c = search needs
+
+loop-less : tie.Need-loop-less Inv-loop μ-loop
+loop-less c = search needs
+
+loop-again : tie.Need-loop-again Inv-loop μ-loop
+loop-again c = search needs
+
+returns-2 : tie.Need-returns-2 Inv-loop μ-loop
+returns-2 c = search needs
+
+pub line-of-spec : {M : Type 1} → statement M
+line-of-spec =
+    tie.close
+    (tie.spec
+    Inv-loop
+    μ-loop
+    loop-holds
+    returns
+    shared-slice-read-if2
+    up-requires
+    add-i
+    loop-less
+    loop-again
+    returns-2)
