@@ -1,2 +1,3 @@
 pub mod Inserting
+pub mod Lines
 pub mod Moving

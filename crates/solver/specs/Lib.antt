@@ -24,4 +24,5 @@ pub mod SamplePlay
 pub mod Growing
 pub mod GrowingLaws
 pub mod Filled
+pub mod Memo
 pub mod InsertLaws

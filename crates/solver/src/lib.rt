@@ -1,6 +1,13 @@
 // The solver: from a game file to the table of the rounds, in lent areas.
 //
 // The work area holds the old round while the table grows, so that a round sees the runs of the round before it alone.
+// Here are its parts: an entry added to a table, the areas, and the memo of a round.
 mod adding;
+mod area;
+mod memo;
 
 pub use adding::insert;
+pub use area::clear;
+pub use area::copy;
+pub use memo::finish;
+pub use memo::is_finished;
