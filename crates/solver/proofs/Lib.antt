@@ -1,3 +1,4 @@
+pub mod Heads
 pub mod Inserting
 pub mod Lines
 pub mod Moving

@@ -25,4 +25,5 @@ pub mod Growing
 pub mod GrowingLaws
 pub mod Filled
 pub mod Memo
+pub mod Jobs
 pub mod InsertLaws

@@ -5,9 +5,15 @@
 mod adding;
 mod area;
 mod memo;
+mod runs;
 
 pub use adding::insert;
 pub use area::clear;
 pub use area::copy;
 pub use memo::finish;
 pub use memo::is_finished;
+pub use runs::Job;
+pub use runs::highest;
+pub use runs::joined;
+pub use runs::next_rule;
+pub use runs::tag_of;
