@@ -1,0 +1,5 @@
+pub mod Session
+pub mod SessionLaws
+pub mod NumberedLaws
+pub mod FormLaws
+pub mod MoveLaws

@@ -1,0 +1,10 @@
+// Playing a move in a session: questions 14, 16 and 17 of document 01, after 1 to 9.
+//
+// It leaves out tables, judging and advice: whoever plays names the rule.
+mod moving;
+mod playing;
+
+pub use moving::Played;
+pub use moving::play_move;
+pub use playing::Session;
+pub use playing::play;
