@@ -64,7 +64,8 @@ fn close(size: usize, at: usize, game: Game) -> Reading
     requires { ⌜ (at < size) × (game .rulecount ≤ maxRules) ⌝ }
     ensures { λ r. ⌜ ((g : PushdownGame) → game ≡ stored g → Reports (ending size at g) r) ⌝ }
 {
-    if at + 1 != size {
+    let after = at + 1;
+    if after != size {
         return refuse(8, at);
     }
     let rules = game.rules;

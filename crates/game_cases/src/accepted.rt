@@ -1,12 +1,12 @@
 // Cases of accepted files: every field of the game handed out.
-use crate::script::Numbers;
-use crate::script::beyond;
-use crate::script::byte_at;
-use crate::script::up;
-use crate::script::wide;
-use crate::script::word;
 use crate::tally::Tally;
 use game::Game;
+use script::Numbers;
+use script::beyond;
+use script::byte_at;
+use script::up;
+use script::wide;
+use script::word;
 
 // The bytes of a command 04 or 05.
 const LONG: usize = 7;

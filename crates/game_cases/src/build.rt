@@ -1,6 +1,6 @@
 // Files built in a buffer. Each function answers the offset after what it put; what does not fit the buffer is left out.
-use crate::script::byte_of;
-use crate::script::up;
+use script::byte_of;
+use script::up;
 
 // One byte.
 pub fn put(file: &mut [u8], at: usize, x: u8) -> usize {

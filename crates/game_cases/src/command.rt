@@ -1,11 +1,11 @@
 // Cases of the command reader by itself.
-use crate::script::Numbers;
-use crate::script::wide;
-use crate::script::word;
 use crate::tally::Tally;
 use game::Command;
 use game::Found;
 use game::command_at;
+use script::Numbers;
+use script::wide;
+use script::word;
 
 // Two cases: the command at offset a of the file is that of byte b, and c is the offset after it.
 pub fn kind(t: Tally, file: &[u8], n: Numbers) -> Tally {

@@ -8,7 +8,6 @@ mod build;
 mod command;
 mod form;
 mod refused;
-mod script;
 mod tally;
 mod words;
 

@@ -2,11 +2,11 @@
 use crate::accepted::is_nothing;
 use crate::build::front;
 use crate::build::put;
-use crate::script::Numbers;
-use crate::script::byte_of;
-use crate::script::up;
 use crate::tally::Tally;
 use game::Game;
+use script::Numbers;
+use script::byte_of;
+use script::up;
 
 // One case: the file is refused by this question at this place, and the game handed out is all zero.
 pub fn refused(t: Tally, file: &[u8], question: u8, place: usize) -> Tally {

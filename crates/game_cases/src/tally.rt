@@ -1,9 +1,9 @@
 // The tally: how many cases were tried and how many failed. A case that fails prints one line, which starts with its number
 // and the script's line that it is on.
-use crate::script::up;
-use crate::script::wide;
 use game::Answer;
 use libc::STDOUT_FILENO;
+use script::up;
+use script::wide;
 
 pub struct Tally {
     pub tried: usize,

@@ -43,15 +43,15 @@ use crate::form::position;
 use crate::refused::cuts;
 use crate::refused::every_byte;
 use crate::refused::refused;
-use crate::script::Numbers;
-use crate::script::after_word;
-use crate::script::byte_of;
-use crate::script::line_of;
-use crate::script::numbers_at;
-use crate::script::up;
-use crate::script::value_at;
-use crate::script::word_at;
 use crate::tally::Tally;
+use script::Numbers;
+use script::after_word;
+use script::byte_of;
+use script::line_of;
+use script::numbers_at;
+use script::up;
+use script::value_at;
+use script::word_at;
 
 // Where the script is, how long the file is, and the tally.
 pub struct State {

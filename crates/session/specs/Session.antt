@@ -4,7 +4,7 @@ use mathlib.Core.Bool.{Bool, cond, _&&_}
 use mathlib.Core.List.{List, [], _∷_, _++_}
 use lib.ListN.{length, getD}
 use lib.Dec.{leb}
-use Rattle.game.specs.Limits.{maxStack}
+use Rattle.game.specs.Limits.{maxStack, ruleStride}
 use Rattle.game.specs.Game.{Rule, PushdownGame, rulesOf}
 use Rattle.game.specs.Outcome.{Outcome, done, refused, said}
 use Rattle.game.specs.Questions.{reading}
@@ -93,7 +93,7 @@ handed r = left (r .answer) (session (r .state) (r .stack) (r .height))
 
 -- what the code needs of a rule stored at an offset and of a height before it plays the rule
 pub record Playable (rules : List ℕ) (at height : ℕ) : Type 0 where
-  pub inside : at + 6 ≤ length rules
+  pub inside : at + ruleStride ≤ length rules
   pub word : getD rules (at + 3) 0 ≤ 2
   pub low : 1 ≤ height
   pub high : height ≤ maxStack

@@ -6,7 +6,7 @@ use game::is_rule_of;
 ghost use mathlib.Core.Path.{_≡_};
 ghost use mathlib.Core.Bool.{_&&_};
 ghost use mathlib.Core.List.{_++_};
-ghost use Prim.Native.Nat.{_+_, _-_, _<_, _≤_};
+ghost use Prim.Native.Nat.{_+_, _-_, _≤_};
 ghost use lib.ListN.{length, take, replicate};
 ghost use Rattle.game.specs.Game.{PushdownGame, wordOf};
 ghost use Rattle.game.specs.Held.{Held};
@@ -131,7 +131,7 @@ fn refuse(question: u8, state: u8, stack: [u8; Game::MAX_STACK], height: usize) 
 
 // 14. Is the session in form?
 fn is_session(control: u8, letters: u8, state: u8, stack: &[u8], height: usize) -> bool
-    requires { ⌜ length (now stack) ≡ 256 ⌝ }
+    requires { ⌜ length (now stack) ≡ maxStack ⌝ }
     ensures { λ r. ⌜ ((g : PushdownGame) → control ≡ g .control → letters ≡ g .letters
         → r ≡ sessionInForm g (session state (now (stack .entry)) height)) ⌝ }
 {
@@ -177,7 +177,7 @@ fn written(
     upper: u8,
     lower: u8,
 ) -> [u8; Game::MAX_STACK]
-    requires { ⌜ (count ≤ 2) × (below + count ≤ 256) ⌝ }
+    requires { ⌜ (count ≤ 2) × (below + count ≤ maxStack) ⌝ }
     ensures { λ r. ⌜ r ≡ padded maxStack (take below stack ++ bottomFirst (wordOf count upper lower)) ⌝ }
 {
     let mut cells = cleared(stack, below);
@@ -195,8 +195,8 @@ fn written(
 
 // The lowest `below` cells, and zeros above.
 fn cleared(stack: [u8; Game::MAX_STACK], below: usize) -> [u8; Game::MAX_STACK]
-    requires { ⌜ below ≤ 256 ⌝ }
-    ensures { λ r. ⌜ r ≡ take below stack ++ replicate (256 - below) 0 ⌝ }
+    requires { ⌜ below ≤ maxStack ⌝ }
+    ensures { λ r. ⌜ r ≡ take below stack ++ replicate (maxStack - below) 0 ⌝ }
 {
     let mut cells = stack;
     let mut i = below;

@@ -8,6 +8,7 @@ use game::Game;
 pub fn every_refusal(t: Tally, a: &[u8], c: &[u8]) -> Tally {
     let t = refused_lengths(t);
     let t = refused_files(t);
+    let t = refused_many(t);
     let t = cuts(t, a);
     let t = refused_heights(t, a);
     let t = refused_letters(t, a);
@@ -42,6 +43,51 @@ fn refused_files(t: Tally) -> Tally {
     let t = t.refuses(twice, s, 0, 6, 11);
     let t = t.refuses(b"\x01\x01\x02\x01\xff\xff", s, 0, 8, 4);
     t.refuses(b"\x01\x01\x02\x01\xff", s, 0, 9, 4)
+}
+
+// 7 at the 257th rule.
+fn refused_many(t: Tally) -> Tally {
+    let mut file = [0u8; 1803];
+    put_rules(&mut file);
+    t.refuses(&file, of(0, 1, [0, 3, 3, 3], 3), 0, 7, 1796)
+}
+
+// P 1, S 2 and L 64, and 257 rules of control state 0 that write one letter: each of the 63 above the bottom on the first of
+// them, then on the next.
+fn put_rules(file: &mut [u8]) {
+    put(file, 0, 1);
+    put(file, 1, 1);
+    put(file, 2, 2);
+    put(file, 3, 64);
+    let mut top = 1u8;
+    let mut letter = 1u8;
+    let mut i = 0;
+    while i < 257 {
+        let at = 4 + i * 7;
+        put(file, at, 4);
+        put(file, at + 2, top);
+        put(file, at + 4, 1);
+        put(file, at + 5, letter);
+        top = top_after(top, letter);
+        letter = letter_after(letter);
+        i += 1;
+    }
+}
+
+fn top_after(top: u8, letter: u8) -> u8 {
+    if letter < 63 { top } else { letter_after(top) }
+}
+
+fn letter_after(letter: u8) -> u8 {
+    if letter < 63 { letter + 1 } else { 1 }
+}
+
+// One byte, if the file has such a place.
+fn put(file: &mut [u8], at: usize, x: u8) {
+    if file.len() <= at {
+        return;
+    }
+    file[at] = x;
 }
 
 // Each cut of a file is refused as the reader refuses it, in a session that is out of form too.

@@ -3,31 +3,23 @@ use Rattle.game.specs.Command.{decoded, whole}
 use borrow.Author.Needs.{needs}
 use Rattle.game.proofs.command.abelard_at.Statement.{statement}
 use Rattle.game.proofs.command.abelard_at.Tie as tie
-use Rattle.game.proofs.command.abelard_at.Reads as reads
-use Rattle.game.proofs.command.abelard_at.Lts as lts
 
--- src/command.rt:61:8
 sub-if1 : tie.Need-sub-if1
 sub-if1 c = search needs
 
--- src/command.rt:62:9
 returns : tie.Need-returns
 unfolding decoded whole
 returns c = simp (lt-ltb _ _ (c .if1 .taken))
 
--- src/command.rt:64:48
 add-t3 : tie.Need-add-t3
 add-t3 c = search needs
 
--- src/command.rt:64:43
 shared-slice-read-t7 : tie.Need-shared-slice-read-t7
 shared-slice-read-t7 c = search needs
 
--- src/command.rt:64:59
 add-t4 : tie.Need-add-t4
 add-t4 c = search needs
 
--- src/command.rt:57:1
 returns-2 : tie.Need-returns-2
 unfolding decoded whole
 returns-2 c = simp (le-ltb _ _ (c .before .if1 .left))

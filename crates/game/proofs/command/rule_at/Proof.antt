@@ -3,71 +3,53 @@ use Rattle.game.specs.Command.{decoded, whole}
 use borrow.Author.Needs.{needs}
 use Rattle.game.proofs.command.rule_at.Statement.{statement}
 use Rattle.game.proofs.command.rule_at.Tie as tie
-use Rattle.game.proofs.command.rule_at.Reads as reads
-use Rattle.game.proofs.command.rule_at.Lts as lts
 
--- src/command.rt:81:8
 sub-if1 : tie.Need-sub-if1
 sub-if1 c = search needs
 
--- src/command.rt:82:9
 returns : tie.Need-returns
 unfolding decoded whole
 returns c = simp (lt-ltb _ _ (c .if1 .taken))
 
--- src/command.rt:85:20
 add-t4 : tie.Need-add-t4
 add-t4 c = search needs
 
--- src/command.rt:85:15
 shared-slice-read-t8 : tie.Need-shared-slice-read-t8
 shared-slice-read-t8 c = search needs
 
--- src/command.rt:86:19
 add-t5 : tie.Need-add-t5
 add-t5 c = search needs
 
--- src/command.rt:86:14
 shared-slice-read-t10 : tie.Need-shared-slice-read-t10
 shared-slice-read-t10 c = search needs
 
--- src/command.rt:87:18
 add-t11 : tie.Need-add-t11
 add-t11 c = search needs
 
--- src/command.rt:87:13
 shared-slice-read-t13 : tie.Need-shared-slice-read-t13
 shared-slice-read-t13 c = search needs
 
--- src/command.rt:88:21
 add-t14 : tie.Need-add-t14
 add-t14 c = search needs
 
--- src/command.rt:88:16
 shared-slice-read-t16 : tie.Need-shared-slice-read-t16
 shared-slice-read-t16 c = search needs
 
--- src/command.rt:89:21
 add-t17 : tie.Need-add-t17
 add-t17 c = search needs
 
--- src/command.rt:89:16
 shared-slice-read-t19 : tie.Need-shared-slice-read-t19
 shared-slice-read-t19 c = search needs
 
--- src/command.rt:90:21
 add-t20 : tie.Need-add-t20
 add-t20 c = search needs
 
--- src/command.rt:90:16
 shared-slice-read-t22 : tie.Need-shared-slice-read-t22
 shared-slice-read-t22 c = search needs
 
--- src/command.rt:92:26
 add-t4-2 : tie.Need-add-t4-2
 add-t4-2 c = search needs
 
--- src/command.rt:77:1
 returns-2 : tie.Need-returns-2
 unfolding decoded whole
 returns-2 c = simp (le-ltb _ _ (c .before .before .before .before .before .before .if1 .left))

@@ -3,76 +3,56 @@ use Rattle.game.specs.Command.{decoded, whole}
 use borrow.Author.Needs.{needs}
 use Rattle.game.proofs.command.target_at.Statement.{statement}
 use Rattle.game.proofs.command.target_at.Tie as tie
-use Rattle.game.proofs.command.target_at.Reads as reads
-use Rattle.game.proofs.command.target_at.Lts as lts
-use Rattle.game.proofs.command.set_of.Reads as set-of-reads
 
--- src/command.rt:99:8
 sub-if1 : tie.Need-sub-if1
 sub-if1 c = search needs
 
--- src/command.rt:100:9
 returns : tie.Need-returns
 unfolding decoded whole
 returns c = simp (lt-ltb _ _ (c .if1 .taken))
 
--- src/command.rt:102:27
 add-set-of : tie.Need-add-set-of
 add-set-of c = search needs
 
--- src/command.rt:102:22
 shared-slice-read-set-of : tie.Need-shared-slice-read-set-of
 shared-slice-read-set-of c = search needs
 
--- src/command.rt:102:41
 add-set-of-2 : tie.Need-add-set-of-2
 add-set-of-2 c = search needs
 
--- src/command.rt:102:36
 shared-slice-read-set-of-2 : tie.Need-shared-slice-read-set-of-2
 shared-slice-read-set-of-2 c = search needs
 
--- src/command.rt:102:55
 add-set-of-3 : tie.Need-add-set-of-3
 add-set-of-3 c = search needs
 
--- src/command.rt:102:50
 shared-slice-read-set-of-3 : tie.Need-shared-slice-read-set-of-3
 shared-slice-read-set-of-3 c = search needs
 
--- src/command.rt:102:69
 add-set-of-4 : tie.Need-add-set-of-4
 add-set-of-4 c = search needs
 
--- src/command.rt:102:64
 shared-slice-read-set-of-4 : tie.Need-shared-slice-read-set-of-4
 shared-slice-read-set-of-4 c = search needs
 
--- src/command.rt:102:9
 set-of-requires : tie.Need-set-of-requires
 set-of-requires c κs = search needs
 
--- src/command.rt:104:21
 add-t5 : tie.Need-add-t5
 add-t5 c = search needs
 
--- src/command.rt:104:16
 shared-slice-read-t17 : tie.Need-shared-slice-read-t17
 shared-slice-read-t17 c = search needs
 
--- src/command.rt:105:22
 add-t15 : tie.Need-add-t15
 add-t15 c = search needs
 
--- src/command.rt:105:17
 shared-slice-read-t14 : tie.Need-shared-slice-read-t14
 shared-slice-read-t14 c = search needs
 
--- src/command.rt:108:26
 add-t12 : tie.Need-add-t12
 add-t12 c = search needs
 
--- src/command.rt:95:1
 returns-2 : tie.Need-returns-2
 unfolding decoded whole
 returns-2 c = simp (le-ltb _ _ (c .before .before .before .before .before .before .before .if1 .left), c .before .before .set-of .ensures)

@@ -7,8 +7,6 @@ use Rattle.game.specs.Position.{form, stackForm}
 use Rattle.game.proofs.Stack.{opens, breaks-bottom, breaks-letter, goes-down, comes, ends, breaks-last}
 use Rattle.game.proofs.position.position_form.Statement.{statement}
 use Rattle.game.proofs.position.position_form.Tie as tie
-use Rattle.game.proofs.position.position_form.Reads as reads
-use Rattle.game.proofs.position.position_form.Lts as lts
 
 abbrev Inv-loop : tie.InvT-loop
 Inv-loop control letters bytes last i₀ i =
@@ -17,66 +15,51 @@ Inv-loop control letters bytes last i₀ i =
 abbrev μ-loop : tie.MeasureT-loop
 μ-loop control letters bytes last i₀ i = last - i
 
--- src/position.rt:14:9
 returns : tie.Need-returns Inv-loop μ-loop
 unfolding form
 returns c = rw (lt-ltb _ _ (c .if1 .taken))
 
--- src/position.rt:16:8
 add-if2 : tie.Need-add-if2 Inv-loop μ-loop
 add-if2 c = omega arith
 
--- src/position.rt:17:9
 returns-2 : tie.Need-returns-2 Inv-loop μ-loop
 unfolding form
 returns-2 c = rw (le-ltb _ _ (c .before .if1 .left), lt-ltb _ _ (c .if2 .taken))
 
--- src/position.rt:19:19
 shared-slice-read-if3 : tie.Need-shared-slice-read-if3 Inv-loop μ-loop
 shared-slice-read-if3 c = omega arith
 
--- src/position.rt:20:9
 returns-3 : tie.Need-returns-3 Inv-loop μ-loop
 unfolding form
 returns-3 c = rw (le-ltb _ _ (c .before .before .before .if1 .left), le-ltb _ _ (c .before .before .if2 .left), le-ltb _ _ (c .if3 .taken))
 
--- src/position.rt:22:16
 sub-last : tie.Need-sub-last Inv-loop μ-loop
 sub-last c = omega arith
 
--- src/position.rt:24:5
 loop-holds : tie.Need-loop-holds Inv-loop μ-loop
 loop-holds c = (omega arith, omega arith, opens _ _ _ (c .before .before .before .if1 .left) (c .before .before .if2 .left) (c .if3 .left))
 
--- src/position.rt:25:17
 shared-slice-read-a : tie.Need-shared-slice-read-a Inv-loop μ-loop
 shared-slice-read-a c = omega arith
 
--- src/position.rt:27:13
 returns-4 : tie.Need-returns-4 Inv-loop μ-loop
 returns-4 c = sym (c .before .before .before .loop .inv .2 ∙ breaks-bottom _ (c .before .before .before .loop .i) _ (omega arith) (c .if4 .taken))
 
--- src/position.rt:30:13
 returns-5 : tie.Need-returns-5 Inv-loop μ-loop
 returns-5 c = sym (c .before .before .before .before .loop .inv .2 ∙ breaks-letter _ (c .before .before .before .before .loop .i) _ (omega arith) (c .before .if4 .left) (c .if5 .taken))
 
--- src/position.rt:32:9
 add-i : tie.Need-add-i Inv-loop μ-loop
 add-i c = omega arith
 
--- src/position.rt:24:5
 loop-less : tie.Need-loop-less Inv-loop μ-loop
 loop-less c = omega arith
 
--- src/position.rt:24:5
 loop-again : tie.Need-loop-again Inv-loop μ-loop
 loop-again c = (omega arith, omega arith, c .before .before .before .before .loop .inv .2 ∙ goes-down _ (c .before .before .before .before .loop .i) _ (omega arith) (c .before .if4 .left) (c .if5 .left))
 
--- src/position.rt:34:8
 shared-slice-read-if6 : tie.Need-shared-slice-read-if6 Inv-loop μ-loop
 shared-slice-read-if6 c = omega arith
 
--- src/position.rt:35:9
 returns-6 : tie.Need-returns-6 Inv-loop μ-loop
 returns-6 c =
     sym
@@ -84,7 +67,6 @@ returns-6 c =
     ∙ comes _ (c .before .before .before .loop .i) _ _ (c .before .before .before .loop .inv .1) (c .before .before .loop-test .left)
     ∙ breaks-last _ _ _ (omega arith) (c .if6 .taken))
 
--- src/position.rt:10:1
 returns-7 : tie.Need-returns-7 Inv-loop μ-loop
 returns-7 c =
     sym

@@ -2,40 +2,31 @@ use borrow.Author.Tests.{lt-ltb, le-ltb, le-leb, lt-leb, eq-eqb, ne-eqb}
 use Rattle.game.specs.Questions.{sizesInRange}
 use Rattle.game.proofs.question.are_sizes_in_range.Statement.{statement}
 use Rattle.game.proofs.question.are_sizes_in_range.Tie as tie
-use Rattle.game.proofs.question.are_sizes_in_range.Reads as reads
-use Rattle.game.proofs.question.are_sizes_in_range.Lts as lts
 
--- src/question.rt:84:9
 returns : tie.Need-returns
 unfolding sizesInRange
 returns c = simp (lt-leb _ _ (c .if1 .taken))
 
--- src/question.rt:87:9
 returns-2 : tie.Need-returns-2
 unfolding sizesInRange
 returns-2 c = simp (le-leb _ _ (c .before .if1 .left), lt-leb _ _ (c .if2 .taken))
 
--- src/question.rt:90:9
 returns-3 : tie.Need-returns-3
 unfolding sizesInRange
 returns-3 c = simp (le-leb _ _ (c .before .before .if1 .left), le-leb _ _ (c .before .if2 .left), le-ltb _ _ (c .if3 .taken))
 
--- src/question.rt:93:9
 returns-4 : tie.Need-returns-4
 unfolding sizesInRange
 returns-4 c = simp (le-leb _ _ (c .before .before .before .if1 .left), le-leb _ _ (c .before .before .if2 .left), lt-ltb _ _ (c .before .if3 .left), lt-leb _ _ (c .if4 .taken))
 
--- src/question.rt:96:9
 returns-5 : tie.Need-returns-5
 unfolding sizesInRange
 returns-5 c = simp (le-leb _ _ (c .before .before .before .before .if1 .left), le-leb _ _ (c .before .before .before .if2 .left), lt-ltb _ _ (c .before .before .if3 .left), le-leb _ _ (c .before .if4 .left), lt-leb _ _ (c .if5 .taken))
 
--- src/question.rt:99:9
 returns-6 : tie.Need-returns-6
 unfolding sizesInRange
 returns-6 c = simp (le-leb _ _ (c .before .before .before .before .before .if1 .left), le-leb _ _ (c .before .before .before .before .if2 .left), lt-ltb _ _ (c .before .before .before .if3 .left), le-leb _ _ (c .before .before .if4 .left), le-leb _ _ (c .before .if5 .left), lt-leb _ _ (c .if6 .taken))
 
--- src/question.rt:80:1
 returns-7 : tie.Need-returns-7
 unfolding sizesInRange
 returns-7 c = simp (le-leb _ _ (c .before .before .before .before .before .if1 .left), le-leb _ _ (c .before .before .before .before .if2 .left), lt-ltb _ _ (c .before .before .before .if3 .left), le-leb _ _ (c .before .before .if4 .left), le-leb _ _ (c .before .if5 .left), le-leb _ _ (c .if6 .left))

@@ -4,55 +4,37 @@ use Rattle.game.proofs.Asked.{first-order, first-range, first-bottom, f
 use borrow.Author.Needs.{needs}
 use Rattle.game.proofs.question.ask_command.Statement.{statement}
 use Rattle.game.proofs.question.ask_command.Tie as tie
-use Rattle.game.proofs.question.ask_command.Reads as reads
-use Rattle.game.proofs.question.ask_command.Lts as lts
-use Rattle.game.proofs.question.is_bottom_kept.Reads as is-bottom-kept-reads
-use Rattle.game.proofs.question.is_in_order.Reads as is-in-order-reads
-use Rattle.game.proofs.question.is_in_range.Reads as is-in-range-reads
-use Rattle.game.proofs.question.is_new.Reads as is-new-reads
-use Rattle.game.proofs.question.is_room.Reads as is-room-reads
 
--- src/question.rt:21:9
 is-in-order-requires : tie.Need-is-in-order-requires
 is-in-order-requires c κs = search needs
 
--- src/question.rt:22:9
 returns : tie.Need-returns
 returns c = λ g e. first-order _ g _ e (sym (c .before .is-in-order .ensures) ∙ not-true _ (c .if1 .taken))
 
--- src/question.rt:24:9
 is-in-range-requires : tie.Need-is-in-range-requires
 is-in-range-requires c κs = search needs
 
--- src/question.rt:25:9
 returns-2 : tie.Need-returns-2
 returns-2 c = λ g e. first-range _ g _ e (sym (c .before .before .before .is-in-order .ensures) ∙ not-false _ (c .before .before .if1 .left)) (sym (c .before .is-in-range .ensures) ∙ not-true _ (c .if2 .taken))
 
--- src/question.rt:27:9
 is-bottom-kept-requires : tie.Need-is-bottom-kept-requires
 is-bottom-kept-requires c κs = search needs
 
--- src/question.rt:28:9
 returns-3 : tie.Need-returns-3
 returns-3 c = λ g e. first-bottom _ g _ e (sym (c .before .before .before .before .before .is-in-order .ensures) ∙ not-false _ (c .before .before .before .before .if1 .left)) (sym (c .before .before .before .is-in-range .ensures) ∙ not-false _ (c .before .before .if2 .left)) (sym (c .before .is-bottom-kept .ensures) ∙ not-true _ (c .if3 .taken))
 
--- src/question.rt:30:9
 is-new-requires : tie.Need-is-new-requires
 is-new-requires c κs = search needs
 
--- src/question.rt:31:9
 returns-4 : tie.Need-returns-4
 returns-4 c = λ g e. first-new _ g _ e (sym (c .before .before .before .before .before .before .before .is-in-order .ensures) ∙ not-false _ (c .before .before .before .before .before .before .if1 .left)) (sym (c .before .before .before .before .before .is-in-range .ensures) ∙ not-false _ (c .before .before .before .before .if2 .left)) (sym (c .before .before .before .is-bottom-kept .ensures) ∙ not-false _ (c .before .before .if3 .left)) (sym (c .before .is-new .ensures g e) ∙ not-true _ (c .if4 .taken))
 
--- src/question.rt:33:9
 is-room-requires : tie.Need-is-room-requires
 is-room-requires c κs = search needs
 
--- src/question.rt:34:9
 returns-5 : tie.Need-returns-5
 returns-5 c = λ g e. first-room _ g _ e (sym (c .before .before .before .before .before .before .before .before .before .is-in-order .ensures) ∙ not-false _ (c .before .before .before .before .before .before .before .before .if1 .left)) (sym (c .before .before .before .before .before .before .before .is-in-range .ensures) ∙ not-false _ (c .before .before .before .before .before .before .if2 .left)) (sym (c .before .before .before .before .before .is-bottom-kept .ensures) ∙ not-false _ (c .before .before .before .before .if3 .left)) (sym (c .before .before .before .is-new .ensures g e) ∙ not-false _ (c .before .before .if4 .left)) (sym (c .before .is-room .ensures) ∙ not-true _ (c .if5 .taken))
 
--- src/question.rt:17:1
 returns-6 : tie.Need-returns-6
 returns-6 c = λ g e. none-first _ g _ e (sym (c .before .before .before .before .before .before .before .before .before .is-in-order .ensures) ∙ not-false _ (c .before .before .before .before .before .before .before .before .if1 .left)) (sym (c .before .before .before .before .before .before .before .is-in-range .ensures) ∙ not-false _ (c .before .before .before .before .before .before .if2 .left)) (sym (c .before .before .before .before .before .is-bottom-kept .ensures) ∙ not-false _ (c .before .before .before .before .if3 .left)) (sym (c .before .before .before .is-new .ensures g e) ∙ not-false _ (c .before .before .if4 .left)) (sym (c .before .is-room .ensures) ∙ not-false _ (c .if5 .left))
 

@@ -4,18 +4,13 @@ use Rattle.game.specs.SetLaws.{has-above}
 use borrow.Author.Needs.{needs}
 use Rattle.game.proofs.question.has_state.Statement.{statement}
 use Rattle.game.proofs.question.has_state.Tie as tie
-use Rattle.game.proofs.question.has_state.Reads as reads
-use Rattle.game.proofs.question.has_state.Lts as lts
 
--- src/question.rt:258:9
 returns : tie.Need-returns
 returns c = sym (has-above 32 _ _ (c .before .fits .set .fits) (c .if1 .taken))
 
--- src/question.rt:260:6
 shr-result : tie.Need-shr-result
 shr-result c = search needs
 
--- src/question.rt:254:1
 returns-2 : tie.Need-returns-2
 unfolding has
 returns-2 c = refl

@@ -2,20 +2,15 @@ use borrow.Author.Tests.{lt-ltb, le-ltb, le-leb, lt-leb, eq-eqb, ne-eqb}
 use Rattle.game.specs.Questions.{between}
 use Rattle.game.proofs.question.is_between.Statement.{statement}
 use Rattle.game.proofs.question.is_between.Tie as tie
-use Rattle.game.proofs.question.is_between.Reads as reads
-use Rattle.game.proofs.question.is_between.Lts as lts
 
--- src/question.rt:72:9
 returns : tie.Need-returns
 unfolding between
 returns c = simp (lt-leb _ _ (c .if1 .taken))
 
--- src/question.rt:75:9
 returns-2 : tie.Need-returns-2
 unfolding between
 returns-2 c = simp (le-leb _ _ (c .before .if1 .left), le-ltb _ _ (c .if2 .taken))
 
--- src/question.rt:68:1
 returns-3 : tie.Need-returns-3
 unfolding between
 returns-3 c = simp (le-leb _ _ (c .before .if1 .left), lt-ltb _ _ (c .if2 .left))

@@ -4,25 +4,19 @@ use Rattle.game.specs.Game.{wordOf}
 use Rattle.game.specs.Questions.{noBottom}
 use Rattle.game.proofs.question.is_bottom_absent.Statement.{statement}
 use Rattle.game.proofs.question.is_bottom_absent.Tie as tie
-use Rattle.game.proofs.question.is_bottom_absent.Reads as reads
-use Rattle.game.proofs.question.is_bottom_absent.Lts as lts
 
--- src/question.rt:221:9
 returns : tie.Need-returns
 unfolding noBottom wordOf
 returns c = simp (eq-eqb _ _ (c .if1 .taken))
 
--- src/question.rt:224:9
 returns-2 : tie.Need-returns-2
 unfolding noBottom wordOf
 returns-2 c = simp (ne-eqb _ _ (c .before .if1 .left), eq-eqb _ _ (c .if2 .taken)) (and-first _)
 
--- src/question.rt:227:9
 returns-3 : tie.Need-returns-3
 unfolding noBottom wordOf
 returns-3 c = simp (ne-eqb _ _ (c .before .before .if1 .left), ne-eqb _ _ (c .before .if2 .left), eq-eqb _ _ (c .if3 .taken))
 
--- src/question.rt:217:1
 returns-4 : tie.Need-returns-4
 unfolding noBottom wordOf
 returns-4 c = simp (ne-eqb _ _ (c .before .before .if1 .left), ne-eqb _ _ (c .before .if2 .left), ne-eqb _ _ (c .if3 .left)) (and-first _)

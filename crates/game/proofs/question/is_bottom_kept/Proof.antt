@@ -3,24 +3,17 @@ use Rattle.game.proofs.Commands.{kept-other}
 use borrow.Author.Needs.{needs}
 use Rattle.game.proofs.question.is_bottom_kept.Statement.{statement}
 use Rattle.game.proofs.question.is_bottom_kept.Tie as tie
-use Rattle.game.proofs.question.is_bottom_kept.Reads as reads
-use Rattle.game.proofs.question.is_bottom_kept.Lts as lts
-use Rattle.game.proofs.question.is_word_kept.Reads as is-word-kept-reads
 
--- src/question.rt:188:34
 enum-known-command : tie.Need-enum-known-command
 enum-known-command c = search needs
 
--- src/question.rt:188:71
 is-word-kept-requires : tie.Need-is-word-kept-requires
 is-word-kept-requires c κs = search needs
 
--- src/question.rt:184:1
 returns : tie.Need-returns
 unfolding keepsBottom
 returns c = rw (c .before .before .command .given .1) (c .is-word-kept .ensures)
 
--- src/question.rt:184:1
 returns-2 : tie.Need-returns-2
 returns-2 c = kept-other _ (c .match .keys2)
 

@@ -3,25 +3,19 @@ use Rattle.game.specs.Game.{wordOf}
 use Rattle.game.specs.Questions.{bottomLast}
 use Rattle.game.proofs.question.is_bottom_last.Statement.{statement}
 use Rattle.game.proofs.question.is_bottom_last.Tie as tie
-use Rattle.game.proofs.question.is_bottom_last.Reads as reads
-use Rattle.game.proofs.question.is_bottom_last.Lts as lts
 
--- src/question.rt:207:9
 returns : tie.Need-returns
 unfolding bottomLast wordOf
 returns c = simp (eq-eqb _ _ (c .if1 .taken))
 
--- src/question.rt:210:9
 returns-2 : tie.Need-returns-2
 unfolding bottomLast wordOf
 returns-2 c = simp (ne-eqb _ _ (c .before .if1 .left), eq-eqb _ _ (c .if2 .taken))
 
--- src/question.rt:213:9
 returns-3 : tie.Need-returns-3
 unfolding bottomLast wordOf
 returns-3 c = simp (ne-eqb _ _ (c .before .before .if1 .left), ne-eqb _ _ (c .before .if2 .left), eq-eqb _ _ (c .if3 .taken))
 
--- src/question.rt:203:1
 returns-4 : tie.Need-returns-4
 unfolding bottomLast wordOf
 returns-4 c = simp (ne-eqb _ _ (c .before .before .if1 .left), ne-eqb _ _ (c .before .if2 .left), ne-eqb _ _ (c .if3 .left))

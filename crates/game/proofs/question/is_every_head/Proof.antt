@@ -12,9 +12,6 @@ use Rattle.game.specs.Questions.{everyLetter, everyHead}
 use Rattle.game.specs.ListLaws.{at-allBelow, not-allBelow}
 use Rattle.game.proofs.question.is_every_head.Statement.{statement}
 use Rattle.game.proofs.question.is_every_head.Tie as tie
-use Rattle.game.proofs.question.is_every_head.Reads as reads
-use Rattle.game.proofs.question.is_every_head.Lts as lts
-use Rattle.game.proofs.question.is_every_letter.Reads as is-every-letter-reads
 
 abbrev Inv-loop : tie.InvT-loop
 Inv-loop rules stored control letters p₀ p =
@@ -24,32 +21,25 @@ Inv-loop rules stored control letters p₀ p =
 abbrev μ-loop : tie.MeasureT-loop
 μ-loop rules stored control letters p₀ p = control - p
 
--- src/question.rt:365:5
 loop-holds : tie.Need-loop-holds Inv-loop μ-loop
 loop-holds c = (omega arith, λ rs t e n k h. absurd (omega arith))
 
--- src/question.rt:366:13
 is-every-letter-requires : tie.Need-is-every-letter-requires Inv-loop μ-loop
 is-every-letter-requires c κs = c .before .before .before .pre
 
--- src/question.rt:367:13
 returns : tie.Need-returns Inv-loop μ-loop
 unfolding everyHead
 returns c = λ rs t e n. sym (not-allBelow _ _ (c .before .before .before .loop .p) (c .before .before .loop-test .taken) (sym (c .before .is-every-letter .ensures rs t e n) ∙ not-true _ (c .if1 .taken)))
 
--- src/question.rt:369:9
 add-p : tie.Need-add-p Inv-loop μ-loop
 add-p c = omega arith
 
--- src/question.rt:365:5
 loop-less : tie.Need-loop-less Inv-loop μ-loop
 loop-less c = omega arith
 
--- src/question.rt:365:5
 loop-again : tie.Need-loop-again Inv-loop μ-loop
 loop-again c = (omega arith, λ rs t e n. below-more _ _ (c .before .before .before .loop .inv .1 rs t e n) (sym (c .before .is-every-letter .ensures rs t e n) ∙ not-false _ (c .if1 .left)))
 
--- src/question.rt:359:1
 returns-2 : tie.Need-returns-2 Inv-loop μ-loop
 unfolding everyHead
 returns-2 c = λ rs t e n. sym (at-allBelow _ _ (λ k h. c .before .loop .inv .1 rs t e n k (omega arith)))

@@ -12,9 +12,6 @@ use Rattle.game.specs.Questions.{any, everyLetter}
 use Rattle.game.specs.ListLaws.{at-allBelow, not-allBelow}
 use Rattle.game.proofs.question.is_every_letter.Statement.{statement}
 use Rattle.game.proofs.question.is_every_letter.Tie as tie
-use Rattle.game.proofs.question.is_every_letter.Reads as reads
-use Rattle.game.proofs.question.is_every_letter.Lts as lts
-use Rattle.game.proofs.question.is_head.Reads as is-head-reads
 
 abbrev Inv-loop : tie.InvT-loop
 Inv-loop rules stored p letters a₀ a =
@@ -24,32 +21,25 @@ Inv-loop rules stored p letters a₀ a =
 abbrev μ-loop : tie.MeasureT-loop
 μ-loop rules stored p letters a₀ a = letters - a
 
--- src/question.rt:380:5
 loop-holds : tie.Need-loop-holds Inv-loop μ-loop
 loop-holds c = (omega arith, λ rs t e n k h. absurd (omega arith))
 
--- src/question.rt:381:13
 is-head-requires : tie.Need-is-head-requires Inv-loop μ-loop
 is-head-requires c κs = c .before .before .before .pre
 
--- src/question.rt:382:13
 returns : tie.Need-returns Inv-loop μ-loop
 unfolding everyLetter
 returns c = λ rs t e n. sym (not-allBelow _ _ (c .before .before .before .loop .a) (c .before .before .loop-test .taken) (sym (c .before .is-head .ensures rs t e n) ∙ not-true _ (c .if1 .taken)))
 
--- src/question.rt:384:9
 add-a : tie.Need-add-a Inv-loop μ-loop
 add-a c = omega arith
 
--- src/question.rt:380:5
 loop-less : tie.Need-loop-less Inv-loop μ-loop
 loop-less c = omega arith
 
--- src/question.rt:380:5
 loop-again : tie.Need-loop-again Inv-loop μ-loop
 loop-again c = (omega arith, λ rs t e n. below-more _ _ (c .before .before .before .loop .inv .1 rs t e n) (sym (c .before .is-head .ensures rs t e n) ∙ not-false _ (c .if1 .left)))
 
--- src/question.rt:374:1
 returns-2 : tie.Need-returns-2 Inv-loop μ-loop
 unfolding everyLetter
 returns-2 c = λ rs t e n. sym (at-allBelow _ _ (λ k h. c .before .loop .inv .1 rs t e n k (omega arith)))

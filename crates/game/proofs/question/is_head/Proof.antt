@@ -8,9 +8,6 @@ use Rattle.game.specs.Stored.{ruleAt}
 use Rattle.game.specs.StoredLaws.{rules-hit, rules-none}
 use Rattle.game.proofs.question.is_head.Statement.{statement}
 use Rattle.game.proofs.question.is_head.Tie as tie
-use Rattle.game.proofs.question.is_head.Reads as reads
-use Rattle.game.proofs.question.is_head.Lts as lts
-use Rattle.game.proofs.question.is_rule_of.Reads as is-rule-of-reads
 
 abbrev Inv-loop : tie.InvT-loop
 Inv-loop rules stored p a i₀ i =
@@ -19,36 +16,28 @@ Inv-loop rules stored p a i₀ i =
 abbrev μ-loop : tie.MeasureT-loop
 μ-loop rules stored p a i₀ i = stored - i
 
--- src/question.rt:397:5
 loop-holds : tie.Need-loop-holds Inv-loop μ-loop
 loop-holds c = (omega arith, λ k h. absurd (omega arith))
 
--- src/question.rt:398:30
 mul-is-rule-of : tie.Need-mul-is-rule-of Inv-loop μ-loop
 mul-is-rule-of c = omega (arith, c .before .before .before .pre)
 
--- src/question.rt:398:12
 is-rule-of-requires : tie.Need-is-rule-of-requires Inv-loop μ-loop
 is-rule-of-requires c κs = omega (arith, c .before .before .before .pre)
 
--- src/question.rt:399:13
 returns : tie.Need-returns Inv-loop μ-loop
 unfolding ofHead
 returns c = rules-hit (ofHead _ _) (λ bytes at n. refl) _ _ (c .before .before .before .loop .i) (omega arith) (sym (c .before .is-rule-of .ensures) ∙ c .if1 .taken)
 
--- src/question.rt:401:9
 add-i : tie.Need-add-i Inv-loop μ-loop
 add-i c = omega (arith, c .before .before .before .before .before .pre)
 
--- src/question.rt:397:5
 loop-less : tie.Need-loop-less Inv-loop μ-loop
 loop-less c = omega arith
 
--- src/question.rt:397:5
 loop-again : tie.Need-loop-again Inv-loop μ-loop
 loop-again c = (omega arith, below-more _ _ (c .before .before .before .loop .inv .1) (sym (c .before .is-rule-of .ensures) ∙ c .if1 .left))
 
--- src/question.rt:391:1
 returns-2 : tie.Need-returns-2 Inv-loop μ-loop
 unfolding ofHead
 returns-2 c = rules-none (ofHead _ _) (λ bytes at n. refl) _ _ (λ k h. c .before .loop .inv .1 k (omega arith))

@@ -4,19 +4,14 @@ use Rattle.game.proofs.Commands.{order-other}
 use borrow.Author.Needs.{needs}
 use Rattle.game.proofs.question.is_in_order.Statement.{statement}
 use Rattle.game.proofs.question.is_in_order.Tie as tie
-use Rattle.game.proofs.question.is_in_order.Reads as reads
-use Rattle.game.proofs.question.is_in_order.Lts as lts
 
--- src/question.rt:44:65
 enum-told : tie.Need-enum-told
 enum-told c = search needs
 
--- src/question.rt:40:1
 returns : tie.Need-returns
 unfolding inOrder
 returns c = rw (c .enum-told .given .1)
 
--- src/question.rt:40:1
 returns-2 : tie.Need-returns-2
 returns-2 c = order-other _ _ (c .match .keys2)
 

@@ -2,79 +2,57 @@ use Rattle.game.specs.Questions.{inRange}
 use borrow.Author.Needs.{needs}
 use Rattle.game.proofs.question.is_in_range.Statement.{statement}
 use Rattle.game.proofs.question.is_in_range.Tie as tie
-use Rattle.game.proofs.question.is_in_range.Reads as reads
-use Rattle.game.proofs.question.is_in_range.Lts as lts
-use Rattle.game.proofs.question.are_sizes_in_range.Reads as are-sizes-in-range-reads
-use Rattle.game.proofs.question.is_between.Reads as is-between-reads
-use Rattle.game.proofs.question.is_rule_in_range.Reads as is-rule-in-range-reads
-use Rattle.game.proofs.question.is_target_in_range.Reads as is-target-in-range-reads
 
--- src/question.rt:55:35
 enum-known-command : tie.Need-enum-known-command
 enum-known-command c = search needs
 
--- src/question.rt:55:65
 are-sizes-in-range-requires : tie.Need-are-sizes-in-range-requires
 are-sizes-in-range-requires c κs = search needs
 
--- src/question.rt:56:28
 enum-known-command-2 : tie.Need-enum-known-command-2
 enum-known-command-2 c = search needs
 
--- src/question.rt:57:26
 enum-known-command-3 : tie.Need-enum-known-command-3
 enum-known-command-3 c = search needs
 
--- src/question.rt:57:37
 is-between-requires : tie.Need-is-between-requires
 is-between-requires c κs = search needs
 
--- src/question.rt:58:25
 enum-known-command-4 : tie.Need-enum-known-command-4
 enum-known-command-4 c = search needs
 
--- src/question.rt:59:13
 is-rule-in-range-requires : tie.Need-is-rule-in-range-requires
 is-rule-in-range-requires c κs = search needs
 
--- src/question.rt:61:27
 enum-known-command-5 : tie.Need-enum-known-command-5
 enum-known-command-5 c = search needs
 
--- src/question.rt:62:13
 is-target-in-range-requires : tie.Need-is-target-in-range-requires
 is-target-in-range-requires c κs = search needs
 
--- src/question.rt:64:25
 enum-told : tie.Need-enum-told
 enum-told c = search needs
 
--- src/question.rt:50:1
 returns : tie.Need-returns
 unfolding inRange
 returns c = rw (c .before .before .command .given .1) (c .are-sizes-in-range .ensures)
 
--- src/question.rt:50:1
 returns-2 : tie.Need-returns-2
 unfolding inRange
 returns-2 c = rw (c .before .command2 .given .1)
 
--- src/question.rt:50:1
 returns-3 : tie.Need-returns-3
 unfolding inRange
 returns-3 c = rw (c .before .before .command3 .given .1) (c .is-between .ensures)
 
--- src/question.rt:50:1
 returns-4 : tie.Need-returns-4
 unfolding inRange
 returns-4 c = rw (c .before .before .command4 .given .1) (c .is-rule-in-range .ensures)
 
--- src/question.rt:50:1
 returns-5 : tie.Need-returns-5
 unfolding inRange
 returns-5 c = rw (c .before .before .command5 .given .1) (c .is-target-in-range .ensures)
 
--- src/question.rt:50:1
 returns-6 : tie.Need-returns-6
 unfolding inRange
 returns-6 c = rw (c .enum-told .given .1)

@@ -3,28 +3,21 @@ use Rattle.game.proofs.Commands.{room-other}
 use borrow.Author.Needs.{needs}
 use Rattle.game.proofs.question.is_room.Statement.{statement}
 use Rattle.game.proofs.question.is_room.Tie as tie
-use Rattle.game.proofs.question.is_room.Reads as reads
-use Rattle.game.proofs.question.is_room.Lts as lts
 
--- src/question.rt:352:83
 enum-told : tie.Need-enum-told
 enum-told c = search needs
 
--- src/question.rt:353:60
 enum-told-2 : tie.Need-enum-told-2
 enum-told-2 c = search needs
 
--- src/question.rt:348:1
 returns : tie.Need-returns
 unfolding hasRoom
 returns c = rw (c .enum-told .given .1)
 
--- src/question.rt:348:1
 returns-2 : tie.Need-returns-2
 unfolding hasRoom
 returns-2 c = rw (c .enum-told2 .given .1)
 
--- src/question.rt:348:1
 returns-3 : tie.Need-returns-3
 returns-3 c = room-other _ _ _ (c .match .keys3)
 

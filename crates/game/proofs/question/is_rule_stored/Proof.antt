@@ -9,9 +9,6 @@ use Rattle.game.specs.Stored.{ruleAt}
 use Rattle.game.specs.StoredLaws.{rules-hit, rules-none}
 use Rattle.game.proofs.question.is_rule_stored.Statement.{statement}
 use Rattle.game.proofs.question.is_rule_stored.Tie as tie
-use Rattle.game.proofs.question.is_rule_stored.Reads as reads
-use Rattle.game.proofs.question.is_rule_stored.Lts as lts
-use Rattle.game.proofs.question.is_rule_at.Reads as is-rule-at-reads
 
 abbrev Inv-loop : tie.InvT-loop
 Inv-loop rules stored from top to count above below i₀ i =
@@ -20,36 +17,28 @@ Inv-loop rules stored from top to count above below i₀ i =
 abbrev μ-loop : tie.MeasureT-loop
 μ-loop rules stored from top to count above below i₀ i = stored - i
 
--- src/question.rt:279:5
 loop-holds : tie.Need-loop-holds Inv-loop μ-loop
 loop-holds c = (omega arith, λ k h. absurd (omega arith))
 
--- src/question.rt:280:30
 mul-is-rule-at : tie.Need-mul-is-rule-at Inv-loop μ-loop
 mul-is-rule-at c = omega (arith, c .before .before .before .pre)
 
--- src/question.rt:280:12
 is-rule-at-requires : tie.Need-is-rule-at-requires Inv-loop μ-loop
 is-rule-at-requires c κs = omega (arith, c .before .before .before .pre)
 
--- src/question.rt:281:13
 returns : tie.Need-returns Inv-loop μ-loop
 unfolding sameRule
 returns c = rules-hit (sameRule _ _ _ _ _ _) (λ bytes at n. refl) _ _ (c .before .before .before .loop .i) (omega arith) (sym (c .before .is-rule-at .ensures) ∙ c .if1 .taken)
 
--- src/question.rt:283:9
 add-i : tie.Need-add-i Inv-loop μ-loop
 add-i c = omega (arith, c .before .before .before .before .before .pre)
 
--- src/question.rt:279:5
 loop-less : tie.Need-loop-less Inv-loop μ-loop
 loop-less c = omega arith
 
--- src/question.rt:279:5
 loop-again : tie.Need-loop-again Inv-loop μ-loop
 loop-again c = (omega arith, below-more _ _ (c .before .before .before .loop .inv .1) (sym (c .before .is-rule-at .ensures) ∙ c .if1 .left))
 
--- src/question.rt:264:1
 returns-2 : tie.Need-returns-2 Inv-loop μ-loop
 unfolding sameRule
 returns-2 c = rules-none (sameRule _ _ _ _ _ _) (λ bytes at n. refl) _ _ (λ k h. c .before .loop .inv .1 k (omega arith))

@@ -4,52 +4,39 @@ use Rattle.game.specs.Questions.{sameTarget}
 use borrow.Author.Needs.{needs}
 use Rattle.game.proofs.question.is_target_at.Statement.{statement}
 use Rattle.game.proofs.question.is_target_at.Tie as tie
-use Rattle.game.proofs.question.is_target_at.Reads as reads
-use Rattle.game.proofs.question.is_target_at.Lts as lts
 
--- src/question.rt:339:8
 mul-if1 : tie.Need-mul-if1
 mul-if1 c = search needs
 
--- src/question.rt:339:8
 shared-slice-read-if1 : tie.Need-shared-slice-read-if1
 shared-slice-read-if1 c = search needs
 
--- src/question.rt:340:9
 returns : tie.Need-returns
 unfolding sameTarget
 returns c = simp (ne-eqb _ _ (c .if1 .taken))
 
--- src/question.rt:342:16
 add-if2 : tie.Need-add-if2
 add-if2 c = search needs
 
--- src/question.rt:342:8
 mul-if2 : tie.Need-mul-if2
 mul-if2 c = search needs
 
--- src/question.rt:342:8
 shared-slice-read-if2 : tie.Need-shared-slice-read-if2
 shared-slice-read-if2 c = search needs
 
--- src/question.rt:343:9
 returns-2 : tie.Need-returns-2
 unfolding sameTarget
 returns-2 c = simp (eq-eqb _ _ (c .before .before .if1 .left), ne-eqb _ _ (c .if2 .taken))
 
--- src/question.rt:345:13
 add-result : tie.Need-add-result
 add-result c = search needs
 
--- src/question.rt:345:5
 mul-result : tie.Need-mul-result
 mul-result c = search needs
 
--- src/question.rt:345:5
 shared-slice-read-result : tie.Need-shared-slice-read-result
 shared-slice-read-result c = search needs
 
--- src/question.rt:335:1
 returns-3 : tie.Need-returns-3
 unfolding sameTarget
 returns-3 c = and-second _ (and-both (eq-eqb _ _ (c .before .before .before .if1 .left)) (eq-eqb _ _ (c .before .if2 .left)))

@@ -3,30 +3,22 @@ use Rattle.game.specs.Questions.{targetInRange}
 use borrow.Author.Needs.{needs}
 use Rattle.game.proofs.question.is_target_in_range.Statement.{statement}
 use Rattle.game.proofs.question.is_target_in_range.Tie as tie
-use Rattle.game.proofs.question.is_target_in_range.Reads as reads
-use Rattle.game.proofs.question.is_target_in_range.Lts as lts
-use Rattle.game.proofs.question.is_within.Reads as is-within-reads
 
--- src/question.rt:158:9
 returns : tie.Need-returns
 unfolding targetInRange
 returns c = simp (le-ltb _ _ (c .if1 .taken))
 
--- src/question.rt:161:9
 returns-2 : tie.Need-returns-2
 unfolding targetInRange
 returns-2 c = simp (lt-ltb _ _ (c .before .if1 .left), le-ltb _ _ (c .if2 .taken))
 
--- src/question.rt:164:9
 returns-3 : tie.Need-returns-3
 unfolding targetInRange
 returns-3 c = simp (lt-ltb _ _ (c .before .before .if1 .left), lt-ltb _ _ (c .before .if2 .left), eq-eqb _ _ (c .if3 .taken))
 
--- src/question.rt:166:5
 is-within-requires : tie.Need-is-within-requires
 is-within-requires c κs = search needs
 
--- src/question.rt:153:1
 returns-4 : tie.Need-returns-4
 unfolding targetInRange
 returns-4 c = simp (lt-ltb _ _ (c .before .before .before .if1 .left), lt-ltb _ _ (c .before .before .if2 .left), ne-eqb _ _ (c .before .if3 .left)) (c .is-within .ensures)

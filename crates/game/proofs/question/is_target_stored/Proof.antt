@@ -8,9 +8,6 @@ use Rattle.game.specs.Stored.{targetAt}
 use Rattle.game.specs.StoredLaws.{targets-hit, targets-none}
 use Rattle.game.proofs.question.is_target_stored.Statement.{statement}
 use Rattle.game.proofs.question.is_target_stored.Tie as tie
-use Rattle.game.proofs.question.is_target_stored.Reads as reads
-use Rattle.game.proofs.question.is_target_stored.Lts as lts
-use Rattle.game.proofs.question.is_target_at.Reads as is-target-at-reads
 
 abbrev Inv-loop : tie.InvT-loop
 Inv-loop targets stored state letter set i₀ i =
@@ -19,35 +16,27 @@ Inv-loop targets stored state letter set i₀ i =
 abbrev μ-loop : tie.MeasureT-loop
 μ-loop targets stored state letter set i₀ i = stored - i
 
--- src/question.rt:326:5
 loop-holds : tie.Need-loop-holds Inv-loop μ-loop
 loop-holds c = (omega arith, λ k h. absurd (omega arith))
 
--- src/question.rt:327:34
 mul-is-target-at : tie.Need-mul-is-target-at Inv-loop μ-loop
 mul-is-target-at c = omega (arith, c .before .before .before .pre)
 
--- src/question.rt:327:12
 is-target-at-requires : tie.Need-is-target-at-requires Inv-loop μ-loop
 is-target-at-requires c κs = omega (arith, c .before .before .before .pre)
 
--- src/question.rt:328:13
 returns : tie.Need-returns Inv-loop μ-loop
 returns c = targets-hit (sameTarget _ _ _) _ _ (c .before .before .before .loop .i) (omega arith) (sym (c .before .is-target-at .ensures) ∙ c .if1 .taken)
 
--- src/question.rt:330:9
 add-i : tie.Need-add-i Inv-loop μ-loop
 add-i c = omega (arith, c .before .before .before .before .before .pre)
 
--- src/question.rt:326:5
 loop-less : tie.Need-loop-less Inv-loop μ-loop
 loop-less c = omega arith
 
--- src/question.rt:326:5
 loop-again : tie.Need-loop-again Inv-loop μ-loop
 loop-again c = (omega arith, below-more _ _ (c .before .before .before .loop .inv .1) (sym (c .before .is-target-at .ensures) ∙ c .if1 .left))
 
--- src/question.rt:320:1
 returns-2 : tie.Need-returns-2 Inv-loop μ-loop
 returns-2 c = targets-none (sameTarget _ _ _) _ _ (λ k h. c .before .loop .inv .1 k (omega arith))
 

@@ -8,33 +8,25 @@ use lib.Pow.{pow-pos}
 use borrow.Author.Needs.{needs}
 use Rattle.game.proofs.question.is_within.Statement.{statement}
 use Rattle.game.proofs.question.is_within.Tie as tie
-use Rattle.game.proofs.question.is_within.Reads as reads
-use Rattle.game.proofs.question.is_within.Lts as lts
 
--- src/question.rt:174:16
 shl-if1 : tie.Need-shl-if1
 shl-if1 c = search needs
 
--- src/question.rt:174:8
 rem-if1 : tie.Need-rem-if1
 rem-if1 c = rw (shifted-one (c .args .low) (omega (arith, c .pre))) (pow-pos _)
 
--- src/question.rt:175:9
 returns : tie.Need-returns
 unfolding within
 returns c =
     rw (ne-eqb _ _ (rw (shifted-one (c .before .args .low) (omega (arith, c .before .pre))) at (c .if1 .taken)))
 
--- src/question.rt:177:8
 shr-if2 : tie.Need-shr-if2
 shr-if2 c = search needs
 
--- src/question.rt:178:9
 returns-2 : tie.Need-returns-2
 unfolding within
 returns-2 c = rw (ne-eqb _ _ (c .if2 .taken)) (and-none (eqb (c .before .before .args .set % 2 ^ c .before .before .args .low) 0))
 
--- src/question.rt:169:1
 returns-3 : tie.Need-returns-3
 unfolding within
 returns-3 c =

@@ -10,57 +10,40 @@ use Rattle.judge.proofs.Refusals.{in-bytes, no-table, table-done, no-po
 use borrow.Author.Needs.{needs}
 use Rattle.judge.proofs.judging.judge_game.Statement.{statement}
 use Rattle.judge.proofs.judging.judge_game.Tie as tie
-use Rattle.judge.proofs.judging.judge_game.Reads as reads
-use Rattle.judge.proofs.judging.judge_game.Lts as lts
-use Rattle.game.proofs.game.Game.sizes.Reads as sizes-reads
-use Rattle.game.proofs.position_form.Reads as position-form-reads
-use Rattle.judge.proofs.judging.refusal.Reads as refusal-reads
-use Rattle.judge.proofs.verdict.verdict_on.Reads as verdict-on-reads
-use Rattle.table.proofs.table_form.Reads as table-form-reads
 
--- src/judging.rt:35:9
 sizes-requires : tie.Need-sizes-requires
 sizes-requires c κs = search needs
 
--- src/judging.rt:37:36
 slice-aggregate-table-form : tie.Need-slice-aggregate-table-form
 slice-aggregate-table-form c = search needs
 
--- src/judging.rt:37:9
 table-form-requires : tie.Need-table-form-requires
 table-form-requires c κs = safe (c .before .before .before .before .before .pre .0) _ _ (held _ (c .before .before .before .before .before .pre .0) _ (c .before .before .before .before .before .pre .1) (c .before .before .before .before .before .pre .2) (c .before .before .sizes .ensures ∙ ap heldSizes (c .before .before .before .before .before .pre .1)))
 
 enum-told : tie.Need-enum-told
 enum-told c = search needs
 
--- src/judging.rt:39:9
 enum-told-2 : tie.Need-enum-told-2
 enum-told-2 c = search needs
 
--- src/judging.rt:39:9
 refusal-requires : tie.Need-refusal-requires
 refusal-requires c κs = search needs
 
--- src/judging.rt:39:9
 returns : tie.Need-returns
 returns c = λ g e r. ap judged (c .refusal .ensures) ∙ no-table g _ _ (c .before .before .before .table-form .result) (c .before .before .before .table-form .ensures g (held _ g _ e r (c .before .before .before .before .before .before .sizes .ensures ∙ ap heldSizes e))) (c .before .before .match .keys2)
 
--- src/judging.rt:41:9
 position-form-requires : tie.Need-position-form-requires
 position-form-requires c κs = search needs
 
 enum-told-3 : tie.Need-enum-told-3
 enum-told-3 c = search needs
 
--- src/judging.rt:43:9
 enum-told-4 : tie.Need-enum-told-4
 enum-told-4 c = search needs
 
--- src/judging.rt:43:9
 refusal-requires-2 : tie.Need-refusal-requires-2
 refusal-requires-2 c κs = search needs
 
--- src/judging.rt:43:9
 returns-2 : tie.Need-returns-2
 returns-2 c =
     λ g e r.
@@ -70,30 +53,24 @@ returns-2 c =
     (by-game g _ _ (c .before .before .before .before .before .before .before .before .before .sizes .ensures ∙ ap heldSizes e) (c .before .before .before .position-form .result) (c .before .before .before .position-form .ensures))
     (c .before .before .match2 .keys2)
 
--- src/judging.rt:45:30
 shared-slice-read-verdict-on : tie.Need-shared-slice-read-verdict-on
 shared-slice-read-verdict-on c = omega (arith, in-bytes _ _ (c .before .before .before .before .before .before .before .before .before .before .before .before .args .position .now) (sym (c .before .before .before .position-form .ensures) ∙ ap said (c .before .enum-told3 .given .1)) .many)
 
--- src/judging.rt:45:43
 sub-verdict-on : tie.Need-sub-verdict-on
 sub-verdict-on c = omega (arith, in-bytes _ _ (c .before .before .before .before .before .before .before .before .before .before .before .before .args .position .now) (sym (c .before .before .before .position-form .ensures) ∙ ap said (c .before .enum-told3 .given .1)) .many)
 
--- src/judging.rt:45:43
 part-verdict-on-start : tie.Need-part-verdict-on-start
 part-verdict-on-start c = omega (arith, in-bytes _ _ (c .before .before .before .before .before .before .before .before .before .before .before .before .args .position .now) (sym (c .before .before .before .position-form .ensures) ∙ ap said (c .before .enum-told3 .given .1)) .many)
 
--- src/judging.rt:45:43
 part-verdict-on-end : tie.Need-part-verdict-on-end
 part-verdict-on-end c = search needs
 
--- src/judging.rt:45:5
 verdict-on-requires : tie.Need-verdict-on-requires
 verdict-on-requires c κs =
     ready (c .before .before .before .before .before .before .before .before .before .before .before .before .before .pre .0) (c .before .before .before .before .before .before .before .before .before .before .before .before .before .pre .2) _ (c .before .before .before .before .before .before .before .before .before .before .sizes .ensures ∙ ap heldSizes (c .before .before .before .before .before .before .before .before .before .before .before .before .before .pre .1)) _ _
     (table-done (c .before .before .before .before .before .before .before .before .before .before .before .before .before .pre .0) _ (c .before .before .before .before .before .before .before .before .before .before .before .before .before .args .position .now) (c .before .before .before .before .before .before .before .table-form .result) (c .before .before .before .before .before .before .before .table-form .ensures (c .before .before .before .before .before .before .before .before .before .before .before .before .before .pre .0) (held _ (c .before .before .before .before .before .before .before .before .before .before .before .before .before .pre .0) _ (c .before .before .before .before .before .before .before .before .before .before .before .before .before .pre .1) (c .before .before .before .before .before .before .before .before .before .before .before .before .before .pre .2) (c .before .before .before .before .before .before .before .before .before .before .sizes .ensures ∙ ap heldSizes (c .before .before .before .before .before .before .before .before .before .before .before .before .before .pre .1)))) (c .before .before .before .before .before .enum-told .given .1))
     (in-bytes _ _ _ (sym (c .before .before .before .before .position-form .ensures) ∙ ap said (c .before .before .enum-told3 .given .1)))
 
--- src/judging.rt:30:1
 returns-3 : tie.Need-returns-3
 returns-3 c =
     λ g e r.

@@ -5,10 +5,6 @@ use Rattle.judge.proofs.Steps.{born-in, room}
 use Rattle.judge.proofs.Rules.{Ruling, begin, finish, turn}
 use Rattle.judge.proofs.verdict.least_rule.Statement.{statement}
 use Rattle.judge.proofs.verdict.least_rule.Tie as tie
-use Rattle.judge.proofs.verdict.least_rule.Reads as reads
-use Rattle.judge.proofs.verdict.least_rule.Lts as lts
-use Rattle.judge.proofs.verdict.lesser_rule.Reads as lesser-rule-reads
-use Rattle.table.proofs.entry.EntryWords.at.Reads as at-reads
 
 abbrev Inv-loop : tie.InvT-loop
 Inv-loop sizes table p a bound below least₀ i₀ least i = (small : sizes .states ≤ 32) → Ruling sizes small table p a bound below i least
@@ -16,31 +12,24 @@ Inv-loop sizes table p a bound below least₀ i₀ least i = (small : sizes .sta
 abbrev μ-loop : tie.MeasureT-loop
 μ-loop sizes table p a bound below least₀ i₀ least i = length table / 3 - i
 
--- src/verdict.rt:88:5
 loop-holds : tie.Need-loop-holds Inv-loop μ-loop
 loop-holds c = λ small. begin _ small _ _ _ _ _
 
--- src/verdict.rt:89:13
 at-requires : tie.Need-at-requires Inv-loop μ-loop
 at-requires c κs = room (c .before .loop .i) _ (c .loop-test .taken)
 
--- src/verdict.rt:90:9
 lesser-rule-requires : tie.Need-lesser-rule-requires Inv-loop μ-loop
 lesser-rule-requires c κs = (c .before .before .before .before .before .pre .0, c .before .before .before .before .before .pre .2, born-in _ (c .before .before .before .loop .i) (room (c .before .before .before .loop .i) _ (c .before .before .loop-test .taken)) (c .before .before .before .before .before .pre .1) _ (c .before .at .ensures))
 
--- src/verdict.rt:91:9
 add-i : tie.Need-add-i Inv-loop μ-loop
 add-i c = omega arith
 
--- src/verdict.rt:88:5
 loop-less : tie.Need-loop-less Inv-loop μ-loop
 loop-less c = omega arith
 
--- src/verdict.rt:88:5
 loop-again : tie.Need-loop-again Inv-loop μ-loop
 loop-again c = λ small. turn _ small _ _ _ _ _ (c .before .before .before .before .loop .i) _ (c .before .before .before .before .loop .inv small) (room (c .before .before .before .before .loop .i) _ (c .before .before .before .loop-test .taken)) _ (c .before .before .at .ensures) _ (c .lesser-rule .ensures)
 
--- src/verdict.rt:72:1
 returns : tie.Need-returns Inv-loop μ-loop
 returns c = finish _ (c .before .before .before .pre .0) _ _ _ _ _ (c .before .loop .i) _ (c .before .loop .inv (c .before .before .before .pre .0)) (c .loop-test .left) (λ k. c .before .before .shared-slice-known .given k .fits)
 

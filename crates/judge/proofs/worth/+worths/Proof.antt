@@ -34,39 +34,31 @@ worths-claims t = (
   letter-step-reads.Learnt,
 )
 
--- src/worth.rt:27:9
 worths-empty-worths-requires : (t : ℕ) → worths-lts.Need-empty-worths-requires (worths-claims t) (worths-at t) worths.Post
 worths-empty-worths-requires t c κs = c .before .before .before .pre .1 .0
 
--- src/worth.rt:27:9
 worths-returns : (t : ℕ) → worths-lts.Need-returns (worths-claims t) (worths-at t) worths.Post
 worths-returns t c =
     rw (no-letters (now (c .before .before .before .before .args .rest)) (c .before .if1 .taken)) (c .empty-worths .ensures (c .before .before .before .before .args .sizes) _ refl refl)
 
--- src/worth.rt:29:38
 worths-sub-worths : (t : ℕ) → worths-lts.Need-sub-worths (worths-claims t) (worths-at t) worths.Post
 worths-sub-worths t c = omega arith
 
--- src/worth.rt:29:38
 worths-part-worths-start : (t : ℕ) → worths-lts.Need-part-worths-start (worths-claims t) (worths-at t) worths.Post
 worths-part-worths-start t c = omega arith
 
--- src/worth.rt:29:38
 worths-part-worths-end : (t : ℕ) → worths-lts.Need-part-worths-end (worths-claims t) (worths-at t) worths.Post
 worths-part-worths-end t c = omega arith
 
--- src/worth.rt:29:9
 worths-worths-requires : (t : ℕ) → worths-lts.Need-worths-requires (worths-claims t) (worths-at t) worths.Post
 worths-worths-requires t c κs = (
   shorter (now (c .before .before .before .before .args .rest)) t (c .before .before .before .before .pre .0) (c .before .if1 .left),
   (c .before .before .before .before .pre .1 .0, no-taller (now (c .before .before .before .before .args .rest)) 256 (c .before .before .before .before .pre .1 .1), c .before .before .before .before .pre .1 .2),
 )
 
--- src/worth.rt:30:31
 worths-shared-slice-read-letter-step : (t : ℕ) → worths-lts.Need-shared-slice-read-letter-step (worths-claims t) (worths-at t) worths.Post
 worths-shared-slice-read-letter-step t c = omega arith
 
--- src/worth.rt:30:5
 worths-letter-step-requires : (t : ℕ) → worths-lts.Need-letter-step-requires (worths-claims t) (worths-at t) worths.Post
 worths-letter-step-requires t c κs = (
   c .before .before .before .before .before .before .pre .1 .0,
@@ -75,7 +67,6 @@ worths-letter-step-requires t c κs = (
       (tame-worths (c .before .before .before .before .before .before .args .sizes) (c .before .before .before .before .before .before .pre .1 .0) _ (c .before .before .before .before .before .before .pre .1 .2) _ (no-taller (now (c .before .before .before .before .before .before .args .rest)) 256 (c .before .before .before .before .before .before .pre .1 .1))),
 )
 
--- src/worth.rt:22:1
 worths-returns-2 : (t : ℕ) → worths-lts.Need-returns-2 (worths-claims t) (worths-at t) worths.Post
 worths-returns-2 t c =
     stepped (c .before .before .before .before .before .before .before .args .sizes) (c .before .before .before .before .before .before .before .pre .1 .0) _ (c .before .before .before .before .before .before .before .pre .1 .2) (now (c .before .before .before .before .before .before .before .args .rest)) (c .before .before .before .before .before .before .before .pre .1 .1) (c .before .before .before .before .if1 .left) _

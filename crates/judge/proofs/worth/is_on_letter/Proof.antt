@@ -5,35 +5,24 @@ use Rattle.judge.proofs.Tests.{equal, unequal, at-least, under}
 use borrow.Author.Needs.{needs}
 use Rattle.judge.proofs.worth.is_on_letter.Statement.{statement}
 use Rattle.judge.proofs.worth.is_on_letter.Tie as tie
-use Rattle.judge.proofs.worth.is_on_letter.Reads as reads
-use Rattle.judge.proofs.worth.is_on_letter.Lts as lts
-use Rattle.table.proofs.entry.EntryWords.is_unused.Reads as is-unused-reads
-use Rattle.table.proofs.entry.EntryWords.letter.Reads as letter-reads
-use Rattle.table.proofs.entry.EntryWords.state.Reads as state-reads
 
--- src/worth.rt:98:8
 letter-requires : tie.Need-letter-requires
 letter-requires c κs = search needs
 
--- src/worth.rt:99:9
 returns : tie.Need-returns
 unfolding onLetter
 returns c = rw (unequal (c .before .letter .ensures) (c .if1 .taken))
 
--- src/worth.rt:101:18
 state-requires : tie.Need-state-requires
 state-requires c κs = search needs
 
--- src/worth.rt:102:9
 returns-2 : tie.Need-returns-2
 unfolding onLetter
 returns-2 c = rw (equal (c .before .before .before .letter .ensures) (c .before .before .if1 .left), at-least (c .before .state .ensures) (c .if2 .taken))
 
--- src/worth.rt:104:6
 is-unused-requires : tie.Need-is-unused-requires
 is-unused-requires c κs = search needs
 
--- src/worth.rt:95:1
 returns-3 : tie.Need-returns-3
 unfolding onLetter
 returns-3 c = rw (equal (c .before .before .before .before .letter .ensures) (c .before .before .before .if1 .left), under (c .before .before .state .ensures) (c .before .if2 .left)) (ap not (c .is-unused .ensures))

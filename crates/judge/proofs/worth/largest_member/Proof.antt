@@ -5,9 +5,6 @@ use Rattle.judge.specs.Machine.{largestOf}
 use Rattle.judge.proofs.Tests.{larger-next, larger-end}
 use Rattle.judge.proofs.worth.largest_member.Statement.{statement}
 use Rattle.judge.proofs.worth.largest_member.Tie as tie
-use Rattle.judge.proofs.worth.largest_member.Reads as reads
-use Rattle.judge.proofs.worth.largest_member.Lts as lts
-use Rattle.judge.proofs.worth.larger.Reads as larger-reads
 
 abbrev Inv-loop : tie.InvT-loop
 Inv-loop below set states most₀ s₀ most s = (s ≤ states) × (most ≡ largestOf below set s)
@@ -15,28 +12,22 @@ Inv-loop below set states most₀ s₀ most s = (s ≤ states) × (most ≡ larg
 abbrev μ-loop : tie.MeasureT-loop
 μ-loop below set states most₀ s₀ most s = states - s
 
--- src/worth.rt:134:5
 loop-holds : tie.Need-loop-holds Inv-loop μ-loop
 unfolding largestOf
 loop-holds c = (omega arith, refl)
 
--- src/worth.rt:135:9
 larger-requires : tie.Need-larger-requires Inv-loop μ-loop
 larger-requires c κs = omega (arith, c .before .before .pre)
 
--- src/worth.rt:136:9
 add-s : tie.Need-add-s Inv-loop μ-loop
 add-s c = omega arith
 
--- src/worth.rt:134:5
 loop-less : tie.Need-loop-less Inv-loop μ-loop
 loop-less c = omega arith
 
--- src/worth.rt:134:5
 loop-again : tie.Need-loop-again Inv-loop μ-loop
 loop-again c = (omega arith, larger-next _ _ (c .before .before .loop .s) _ (c .before .before .loop .inv .1) _ (c .larger .ensures))
 
--- src/worth.rt:128:1
 returns : tie.Need-returns Inv-loop μ-loop
 returns c = larger-end _ _ (c .before .loop .s) _ _ (c .before .loop .inv .1) (c .before .loop .inv .0) (c .loop-test .left)
 

@@ -5,10 +5,6 @@ use Rattle.judge.specs.Machine.{Tame, Young}
 use Rattle.judge.proofs.Steps.{born-in, room, Stepping, begin, finish, turn}
 use Rattle.judge.proofs.worth.letter_step.Statement.{statement}
 use Rattle.judge.proofs.worth.letter_step.Tie as tie
-use Rattle.judge.proofs.worth.letter_step.Reads as reads
-use Rattle.judge.proofs.worth.letter_step.Lts as lts
-use Rattle.judge.proofs.worth.take_entry.Reads as take-entry-reads
-use Rattle.table.proofs.entry.EntryWords.at.Reads as at-reads
 
 abbrev Inv-loop : tie.InvT-loop
 Inv-loop sizes table letter below out₀ i₀ out i =
@@ -17,27 +13,21 @@ Inv-loop sizes table letter below out₀ i₀ out i =
 abbrev μ-loop : tie.MeasureT-loop
 μ-loop sizes table letter below out₀ i₀ out i = length table / 3 - i
 
--- src/worth.rt:71:5
 loop-holds : tie.Need-loop-holds Inv-loop μ-loop
 loop-holds c = λ small young tamed. begin _ small _ young _ _ tamed
 
--- src/worth.rt:72:13
 at-requires : tie.Need-at-requires Inv-loop μ-loop
 at-requires c κs = room (c .before .loop .i) _ (c .loop-test .taken)
 
--- src/worth.rt:73:9
 take-entry-requires : tie.Need-take-entry-requires Inv-loop μ-loop
 take-entry-requires c κs = (c .before .before .before .before .before .before .pre .0, c .before .before .before .before .before .before .pre .2, born-in _ (c .before .before .before .before .loop .i) (room (c .before .before .before .before .loop .i) _ (c .before .before .before .loop-test .taken)) (c .before .before .before .before .before .before .pre .1) _ (c .before .before .at .ensures))
 
--- src/worth.rt:74:9
 add-i : tie.Need-add-i Inv-loop μ-loop
 add-i c = omega arith
 
--- src/worth.rt:71:5
 loop-less : tie.Need-loop-less Inv-loop μ-loop
 loop-less c = omega arith
 
--- src/worth.rt:71:5
 loop-again : tie.Need-loop-again Inv-loop μ-loop
 loop-again c =
     λ small young tamed.
@@ -48,7 +38,6 @@ loop-again c =
     _
     (c .take-entry .ensures)
 
--- src/worth.rt:59:1
 returns : tie.Need-returns Inv-loop μ-loop
 returns c =
     finish _ (c .before .before .before .pre .0) _ (c .before .before .before .pre .1) _ _ (c .before .before .before .pre .2) (c .before .loop .i) _

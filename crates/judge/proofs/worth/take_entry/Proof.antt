@@ -5,53 +5,37 @@ use Rattle.judge.proofs.Steps.{below-all, on-used, on-state, taken-not,
 use borrow.Author.Needs.{needs}
 use Rattle.judge.proofs.worth.take_entry.Statement.{statement}
 use Rattle.judge.proofs.worth.take_entry.Tie as tie
-use Rattle.judge.proofs.worth.take_entry.Reads as reads
-use Rattle.judge.proofs.worth.take_entry.Lts as lts
-use Rattle.judge.proofs.worth.entry_worth.Reads as entry-worth-reads
-use Rattle.judge.proofs.worth.is_on_letter.Reads as is-on-letter-reads
-use Rattle.table.proofs.entry.EntryWords.state.Reads as state-reads
 
--- src/worth.rt:90:9
 is-on-letter-requires : tie.Need-is-on-letter-requires
 is-on-letter-requires c κs = search needs
 
--- src/worth.rt:91:9
 returns : tie.Need-returns
 returns c = taken-not _ _ _ _ _ _ _ (sym (c .before .is-on-letter .ensures) ∙ not-true _ (c .if1 .taken))
 
--- src/worth.rt:93:9
 entry-worth-requires : tie.Need-entry-worth-requires
 entry-worth-requires c κs = (c .before .before .pre .0, c .before .before .pre .1, c .before .before .pre .2 (on-used _ _ _ _ _ (sym (c .before .is-on-letter .ensures) ∙ not-false _ (c .if1 .left))))
 
--- src/worth.rt:94:14
 state-requires : tie.Need-state-requires
 state-requires c κs = search needs
 
--- src/worth.rt:94:14
 cast-at : tie.Need-cast-at
 cast-at c = search needs
 
--- src/worth.rt:95:8
 mul-if2 : tie.Need-mul-if2
 mul-if2 c = search needs
 
--- src/worth.rt:95:8
 element-copy-out-if2 : tie.Need-element-copy-out-if2
 element-copy-out-if2 c = below-all (c .state .ensures) (on-state _ _ _ _ _ (sym (c .before .before .before .is-on-letter .ensures) ∙ not-false _ (c .before .before .if1 .left))) (c .before .before .before .before .pre .0)
 
--- src/worth.rt:96:9
 returns-2 : tie.Need-returns-2
 returns-2 c = taken-same _ _ _ _ _ _ _ (sym (c .before .before .before .before .before .is-on-letter .ensures) ∙ not-false _ (c .before .before .before .before .if1 .left)) _ _ (c .before .before .state .ensures) (c .before .before .before .entry-worth .ensures) (c .if2 .taken)
 
--- src/worth.rt:98:5
 mul-out : tie.Need-mul-out
 mul-out c = search needs
 
--- src/worth.rt:98:5
 element-write-out : tie.Need-element-write-out
 element-write-out c = below-all (c .before .before .state .ensures) (on-state _ _ _ _ _ (sym (c .before .before .before .before .before .is-on-letter .ensures) ∙ not-false _ (c .before .before .before .before .if1 .left))) (c .before .before .before .before .before .before .pre .0)
 
--- src/worth.rt:80:1
 returns-3 : tie.Need-returns-3
 returns-3 c = taken-less _ _ _ _ _ _ _ (sym (c .before .before .before .before .before .is-on-letter .ensures) ∙ not-false _ (c .before .before .before .before .if1 .left)) _ _ (c .before .before .state .ensures) (c .before .before .before .entry-worth .ensures) (c .if2 .left)
 

@@ -5,8 +5,6 @@ use lib.ListN.{length, replicate, length-replicate, getD-replicate}
 use Rattle.solver.proofs.Lines.{Done, start, next, finish}
 use Rattle.solver.proofs.area.clear.Statement.{statement}
 use Rattle.solver.proofs.area.clear.Tie as tie
-use Rattle.solver.proofs.area.clear.Reads as reads
-use Rattle.solver.proofs.area.clear.Lts as lts
 
 abbrev Inv-loop : tie.InvT-loop
 Inv-loop area₀ i₀ area i = Done area₀ (replicate (length area₀) 0) i area
@@ -14,35 +12,27 @@ Inv-loop area₀ i₀ area i = Done area₀ (replicate (length area₀) 0) i are
 abbrev μ-loop : tie.MeasureT-loop
 μ-loop area₀ i₀ area i = length area₀ - i
 
--- src/area.rt:10:5
 loop-holds : tie.Need-loop-holds Inv-loop μ-loop
 loop-holds c = start _ _
 
--- src/area.rt:11:9
 mul-area : tie.Need-mul-area Inv-loop μ-loop
 mul-area c = omega (arith, c .before .loop .inv .long, c .before .before .good)
 
--- src/area.rt:11:9
 slice-write-area : tie.Need-slice-write-area Inv-loop μ-loop
 slice-write-area c = omega arith
 
--- src/area.rt:12:9
 add-i : tie.Need-add-i Inv-loop μ-loop
 add-i c = omega (arith, c .before .loop .inv .long, c .before .before .good)
 
--- src/area.rt:10:5
 loop-less : tie.Need-loop-less Inv-loop μ-loop
 loop-less c = omega (arith, c .before .loop .inv .long)
 
--- src/area.rt:10:5
 loop-again : tie.Need-loop-again Inv-loop μ-loop
 loop-again c = next _ _ _ (c .before .loop .i) (c .before .loop .inv) (omega (arith, c .before .loop .inv .long)) _ (sym (getD-replicate (length (c .before .before .args .area .now)) (c .before .loop .i) 0 0 (omega (arith, c .before .loop .inv .long))))
 
--- src/area.rt:6:1
 same-length : tie.Need-same-length Inv-loop μ-loop
 same-length c = c .before .loop .inv .long
 
--- src/area.rt:6:1
 returns : tie.Need-returns Inv-loop μ-loop
 returns c = finish _ _ _ (c .before .loop .i) (c .before .loop .inv) (omega (arith, c .before .loop .inv .long)) (length-replicate _ 0)
 

@@ -5,8 +5,6 @@ use lib.ListN.{length}
 use Rattle.solver.proofs.Lines.{Done, start, next, finish}
 use Rattle.solver.proofs.area.copy.Statement.{statement}
 use Rattle.solver.proofs.area.copy.Tie as tie
-use Rattle.solver.proofs.area.copy.Reads as reads
-use Rattle.solver.proofs.area.copy.Lts as lts
 
 abbrev Inv-loop : tie.InvT-loop
 Inv-loop from to₀ i₀ to i = Done to₀ from i to
@@ -14,43 +12,33 @@ Inv-loop from to₀ i₀ to i = Done to₀ from i to
 abbrev μ-loop : tie.MeasureT-loop
 μ-loop from to₀ i₀ to i = length from - i
 
--- src/area.rt:22:5
 loop-holds : tie.Need-loop-holds Inv-loop μ-loop
 loop-holds c = start _ _
 
--- src/area.rt:23:17
 mul-to : tie.Need-mul-to Inv-loop μ-loop
 mul-to c = omega arith
 
--- src/area.rt:23:17
 shared-slice-read-to : tie.Need-shared-slice-read-to Inv-loop μ-loop
 shared-slice-read-to c = omega arith
 
--- src/area.rt:23:9
 mul-to-2 : tie.Need-mul-to-2 Inv-loop μ-loop
 mul-to-2 c = omega (arith, c .before .before .before .pre)
 
--- src/area.rt:23:9
 slice-write-to : tie.Need-slice-write-to Inv-loop μ-loop
 slice-write-to c = omega (arith, c .before .before .before .pre, c .before .before .loop .inv .long)
 
--- src/area.rt:24:9
 add-i : tie.Need-add-i Inv-loop μ-loop
 add-i c = omega arith
 
--- src/area.rt:22:5
 loop-less : tie.Need-loop-less Inv-loop μ-loop
 loop-less c = omega arith
 
--- src/area.rt:22:5
 loop-again : tie.Need-loop-again Inv-loop μ-loop
 loop-again c = next _ _ _ (c .before .before .loop .i) (c .before .before .loop .inv) (omega (arith, c .before .before .before .pre)) _ refl
 
--- src/area.rt:17:1
 same-length : tie.Need-same-length Inv-loop μ-loop
 same-length c = c .before .loop .inv .long
 
--- src/area.rt:17:1
 returns : tie.Need-returns Inv-loop μ-loop
 returns c = finish _ _ _ (c .before .loop .i) (c .before .loop .inv) (omega (arith, c .before .before .pre)) (c .before .before .pre)
 

@@ -6,63 +6,46 @@ use Rattle.game.specs.ListLaws.{clash}
 use borrow.Author.Needs.{needs}
 use Rattle.solver.proofs.memo.is_finished.Statement.{statement}
 use Rattle.solver.proofs.memo.is_finished.Tie as tie
-use Rattle.solver.proofs.memo.is_finished.Reads as reads
-use Rattle.solver.proofs.memo.is_finished.Lts as lts
-use Rattle.solver.proofs.memo.line_of.Reads as line-of-reads
 
--- src/memo.rt:17:9
 line-of-requires : tie.Need-line-of-requires
 line-of-requires c κs = search needs
 
--- src/memo.rt:19:9
 returns : tie.Need-returns
 returns c = λ t. clash t refl
 
--- src/memo.rt:21:14
 mul-at : tie.Need-mul-at
 mul-at c = search needs
 
--- src/memo.rt:22:8
 mul-if2 : tie.Need-mul-if2
 mul-if2 c = search needs
 
--- src/memo.rt:22:8
 shared-slice-read-if2 : tie.Need-shared-slice-read-if2
 shared-slice-read-if2 c = search needs
 
--- src/memo.rt:23:9
 returns-2 : tie.Need-returns-2
 returns-2 c = λ t. clash t refl
 
--- src/memo.rt:25:13
 add-if3 : tie.Need-add-if3
 add-if3 c = search needs
 
--- src/memo.rt:25:8
 mul-if3 : tie.Need-mul-if3
 mul-if3 c = search needs
 
--- src/memo.rt:25:8
 shared-slice-read-if3 : tie.Need-shared-slice-read-if3
 shared-slice-read-if3 c = search needs
 
--- src/memo.rt:26:9
 returns-3 : tie.Need-returns-3
 returns-3 c = λ t. clash t refl
 
--- src/memo.rt:28:10
 add-result : tie.Need-add-result
 add-result c = search needs
 
--- src/memo.rt:28:5
 mul-result : tie.Need-mul-result
 mul-result c = search needs
 
--- src/memo.rt:28:5
 shared-slice-read-result : tie.Need-shared-slice-read-result
 shared-slice-read-result c = search needs
 
--- src/memo.rt:14:1
 returns-4 : tie.Need-returns-4
 returns-4 c = λ t. (c .before .before .before .before .before .before .line-of .result, line-is (c .before .before .before .before .before .before .before .before .args .memo .now) (c .before .before .before .before .before .before .line-of .result) _ _ _ (c .before .before .before .if2 .left) (c .before .if3 .left) (eqb-true _ _ t))
 

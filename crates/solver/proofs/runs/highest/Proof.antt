@@ -2,8 +2,6 @@ use native.Mathlib.Omega.{arith}
 use Rattle.solver.proofs.Heads.{Falling, top, falls, stops, last}
 use Rattle.solver.proofs.runs.highest.Statement.{statement}
 use Rattle.solver.proofs.runs.highest.Tie as tie
-use Rattle.solver.proofs.runs.highest.Reads as reads
-use Rattle.solver.proofs.runs.highest.Lts as lts
 
 abbrev Inv-loop : tie.InvT-loop
 Inv-loop set s₀ s = Falling set s
@@ -11,35 +9,27 @@ Inv-loop set s₀ s = Falling set s
 abbrev μ-loop : tie.MeasureT-loop
 μ-loop set s₀ s = s
 
--- src/runs.rt:227:5
 loop-holds : tie.Need-loop-holds Inv-loop μ-loop
 loop-holds c = top _
 
--- src/runs.rt:228:20
 cast-if1 : tie.Need-cast-if1 Inv-loop μ-loop
 cast-if1 c = omega (arith, c .before .loop .inv .small)
 
--- src/runs.rt:228:13
 shr-if1 : tie.Need-shr-if1 Inv-loop μ-loop
 shr-if1 c = omega (arith, c .before .loop .inv .small)
 
--- src/runs.rt:229:13
 returns : tie.Need-returns Inv-loop μ-loop
 returns c = stops _ (c .before .before .loop .s) (c .before .before .loop .inv) (c .if1 .taken)
 
--- src/runs.rt:231:9
 sub-s : tie.Need-sub-s Inv-loop μ-loop
 sub-s c = omega arith
 
--- src/runs.rt:227:5
 loop-less : tie.Need-loop-less Inv-loop μ-loop
 loop-less c = omega arith
 
--- src/runs.rt:227:5
 loop-again : tie.Need-loop-again Inv-loop μ-loop
 loop-again c = falls _ (c .before .before .loop .s) (c .before .before .loop .inv) (c .before .loop-test .taken) (c .if1 .left)
 
--- src/runs.rt:223:1
 returns-2 : tie.Need-returns-2 Inv-loop μ-loop
 returns-2 c = last _ (c .before .loop .s) (c .before .before .fits .set .fits) (c .before .loop .inv) (c .loop-test .left)
 

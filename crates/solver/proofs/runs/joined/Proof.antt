@@ -3,18 +3,13 @@ use Rattle.solver.proofs.Heads.{shifted-one}
 use borrow.Author.Needs.{needs}
 use Rattle.solver.proofs.runs.joined.Statement.{statement}
 use Rattle.solver.proofs.runs.joined.Tie as tie
-use Rattle.solver.proofs.runs.joined.Reads as reads
-use Rattle.solver.proofs.runs.joined.Lts as lts
 
--- src/runs.rt:241:9
 returns : tie.Need-returns
 returns c = λ h. absurd (omega arith)
 
--- src/runs.rt:243:12
 shl-result : tie.Need-shl-result
 shl-result c = search needs
 
--- src/runs.rt:237:1
 returns-2 : tie.Need-returns-2
 returns-2 c = λ h. rw (shifted-one (c .before .args .s) h)
 

@@ -4,9 +4,6 @@ use native.Mathlib.Omega.{arith}
 use Rattle.solver.proofs.Heads.{Skipping, begins, skips, finds, misses}
 use Rattle.solver.proofs.runs.next_rule.Statement.{statement}
 use Rattle.solver.proofs.runs.next_rule.Tie as tie
-use Rattle.solver.proofs.runs.next_rule.Reads as reads
-use Rattle.solver.proofs.runs.next_rule.Lts as lts
-use Rattle.game.proofs.is_rule_of.Reads as is-rule-of-reads
 
 abbrev Inv-loop : tie.InvT-loop
 Inv-loop rules end from state letter r₀ r = Skipping rules end from state letter r
@@ -14,35 +11,27 @@ Inv-loop rules end from state letter r₀ r = Skipping rules end from state lett
 abbrev μ-loop : tie.MeasureT-loop
 μ-loop rules end from state letter r₀ r = end - r
 
--- src/runs.rt:213:5
 loop-holds : tie.Need-loop-holds Inv-loop μ-loop
 loop-holds c = begins _ _ _ _ _ (c .before .pre .1)
 
--- src/runs.rt:214:30
 mul-is-rule-of : tie.Need-mul-is-rule-of Inv-loop μ-loop
 mul-is-rule-of c = omega (arith, c .before .before .before .pre)
 
--- src/runs.rt:214:12
 is-rule-of-requires : tie.Need-is-rule-of-requires Inv-loop μ-loop
 is-rule-of-requires c κs = omega (arith, c .before .before .before .pre)
 
--- src/runs.rt:215:13
 returns : tie.Need-returns Inv-loop μ-loop
 returns c = finds _ _ _ _ _ (c .before .before .before .loop .r) (c .before .before .before .loop .inv) (c .before .before .loop-test .taken) (sym (c .before .is-rule-of .ensures) ∙ c .if1 .taken)
 
--- src/runs.rt:217:9
 add-r : tie.Need-add-r Inv-loop μ-loop
 add-r c = omega (arith, c .before .before .before .before .before .pre)
 
--- src/runs.rt:213:5
 loop-less : tie.Need-loop-less Inv-loop μ-loop
 loop-less c = omega arith
 
--- src/runs.rt:213:5
 loop-again : tie.Need-loop-again Inv-loop μ-loop
 loop-again c = skips _ _ _ _ _ (c .before .before .before .loop .r) (c .before .before .before .loop .inv) (c .before .before .loop-test .taken) (sym (c .before .is-rule-of .ensures) ∙ c .if1 .left)
 
--- src/runs.rt:208:1
 returns-2 : tie.Need-returns-2 Inv-loop μ-loop
 returns-2 c = misses _ _ _ _ _ (c .before .loop .r) (c .before .loop .inv) (c .loop-test .left)
 

@@ -3,34 +3,25 @@ use Rattle.solver.specs.Jobs.{tagOf}
 use borrow.Author.Needs.{needs}
 use Rattle.solver.proofs.runs.tag_of.Statement.{statement}
 use Rattle.solver.proofs.runs.tag_of.Tie as tie
-use Rattle.solver.proofs.runs.tag_of.Reads as reads
-use Rattle.solver.proofs.runs.tag_of.Lts as lts
 
--- src/runs.rt:251:6
 mul-result : tie.Need-mul-result
 mul-result c = search needs
 
--- src/runs.rt:251:6
 add-result : tie.Need-add-result
 add-result c = search needs
 
--- src/runs.rt:251:5
 mul-result-2 : tie.Need-mul-result-2
 mul-result-2 c = search needs
 
--- src/runs.rt:251:54
 cast-result : tie.Need-cast-result
 cast-result c = search needs
 
--- src/runs.rt:251:5
 add-result-2 : tie.Need-add-result-2
 add-result-2 c = search needs
 
--- src/runs.rt:251:5
 add-result-3 : tie.Need-add-result-3
 add-result-3 c = search needs
 
--- src/runs.rt:247:1
 returns : tie.Need-returns
 unfolding tagOf
 returns c = refl

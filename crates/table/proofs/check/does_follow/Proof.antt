@@ -4,34 +4,24 @@ use Rattle.table.specs.Table.{follows}
 use borrow.Author.Needs.{needs}
 use Rattle.table.proofs.check.does_follow.Statement.{statement}
 use Rattle.table.proofs.check.does_follow.Tie as tie
-use Rattle.table.proofs.check.does_follow.Reads as reads
-use Rattle.table.proofs.check.does_follow.Lts as lts
-use Rattle.table.proofs.entry.EntryWords.is_unused.Reads as is-unused-reads
-use Rattle.table.proofs.entry.EntryWords.key.Reads as key-reads
 
--- src/check.rt:80:9
 returns : tie.Need-returns
 unfolding follows
 returns c = rw (eq-eqb _ _ (c .if1 .taken))
 
--- src/check.rt:82:8
 is-unused-requires : tie.Need-is-unused-requires
 is-unused-requires c κs = search needs
 
--- src/check.rt:83:9
 returns-2 : tie.Need-returns-2
 unfolding follows
 returns-2 c = rw (ne-eqb _ _ (c .before .before .if1 .left), sym (c .before .is-unused .ensures) ∙ c .if2 .taken)
 
--- src/check.rt:85:5
 key-requires : tie.Need-key-requires
 key-requires c κs = search needs
 
--- src/check.rt:85:20
 key-requires-2 : tie.Need-key-requires-2
 key-requires-2 c κs = search needs
 
--- src/check.rt:76:1
 returns-3 : tie.Need-returns-3
 unfolding follows
 returns-3 c = rw (ne-eqb _ _ (c .before .before .before .before .if1 .left), sym (c .before .before .before .is-unused .ensures) ∙ c .before .before .if2 .left, c .before .key .ensures, c .key2 .ensures)

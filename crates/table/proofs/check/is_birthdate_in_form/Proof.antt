@@ -5,25 +5,18 @@ use Rattle.table.proofs.Checked.{within-low}
 use borrow.Author.Needs.{needs}
 use Rattle.table.proofs.check.is_birthdate_in_form.Statement.{statement}
 use Rattle.table.proofs.check.is_birthdate_in_form.Tie as tie
-use Rattle.table.proofs.check.is_birthdate_in_form.Reads as reads
-use Rattle.table.proofs.check.is_birthdate_in_form.Lts as lts
-use Rattle.game.proofs.is_within.Reads as is-within-reads
 
--- src/check.rt:121:9
 is-within-requires : tie.Need-is-within-requires
 is-within-requires c κs = search needs
 
--- src/check.rt:121:9
 returns : tie.Need-returns
 unfolding birthdateInForm
 returns c = rw (eq-eqb _ _ (c .before .if1 .taken)) (c .is-within .ensures ∙ within-low _ _ (c .before .before .fits .set .fits))
 
--- src/check.rt:124:9
 returns-2 : tie.Need-returns-2
 unfolding birthdateInForm
 returns-2 c = rw (ne-eqb _ _ (c .before .if1 .left), le-ltb _ _ (c .if2 .taken))
 
--- src/check.rt:116:1
 returns-3 : tie.Need-returns-3
 unfolding birthdateInForm
 returns-3 c = rw (ne-eqb _ _ (c .before .if1 .left), lt-ltb _ _ (c .if2 .left))

@@ -6,40 +6,28 @@ use Rattle.table.proofs.Checked.{at-least, under, rule-by-parts}
 use borrow.Author.Needs.{needs}
 use Rattle.table.proofs.check.is_rule_in_form.Statement.{statement}
 use Rattle.table.proofs.check.is_rule_in_form.Tie as tie
-use Rattle.table.proofs.check.is_rule_in_form.Reads as reads
-use Rattle.table.proofs.check.is_rule_in_form.Lts as lts
-use Rattle.game.proofs.has_state.Reads as has-state-reads
-use Rattle.table.proofs.check.is_rule_numbered.Reads as is-rule-numbered-reads
 
--- src/check.rt:136:9
 returns : tie.Need-returns
 returns c = λ g h. rule-by-parts g _ _ _ _ (eq-eqb _ _ (c .if1 .taken)) refl refl refl
 
--- src/check.rt:139:9
 returns-2 : tie.Need-returns-2
 returns-2 c = λ g h. rule-by-parts g _ _ _ _ (ne-eqb _ _ (c .before .before .if1 .left)) (at-least (ap (λ (x : Sizes). x .control) (h .sized)) refl (c .if2 .taken)) refl refl
 
--- src/check.rt:141:8
 has-state-requires : tie.Need-has-state-requires
 has-state-requires c κs = search needs
 
--- src/check.rt:142:9
 returns-3 : tie.Need-returns-3
 returns-3 c = λ g h. rule-by-parts g _ _ _ _ (ne-eqb _ _ (c .before .before .before .before .if1 .left)) (under (ap (λ (x : Sizes). x .control) (h .sized)) refl (c .before .before .if2 .left)) (sym (ap (λ (x : Sizes). has (x .abelard) (c .before .before .before .before .before .before .args .state)) (h .sized)) ∙ sym (c .before .has-state .ensures) ∙ c .if3 .taken) refl
 
--- src/check.rt:145:9
 returns-4 : tie.Need-returns-4
 returns-4 c = λ g h. rule-by-parts g _ _ _ _ (ne-eqb _ _ (c .before .before .before .before .before .if1 .left)) (under (ap (λ (x : Sizes). x .control) (h .sized)) refl (c .before .before .before .if2 .left)) (sym (ap (λ (x : Sizes). has (x .abelard) (c .before .before .before .before .before .before .before .args .state)) (h .sized)) ∙ sym (c .before .before .has-state .ensures) ∙ c .before .if3 .left) (eq-eqb _ _ (c .if4 .taken))
 
--- src/check.rt:147:61
 sub-is-rule-numbered : tie.Need-sub-is-rule-numbered
 sub-is-rule-numbered c = search needs
 
--- src/check.rt:147:5
 is-rule-numbered-requires : tie.Need-is-rule-numbered-requires
 is-rule-numbered-requires c κs = (c .before .before .before .before .before .before .before .pre .fit, c .before .before .before .before .before .before .before .pre .few)
 
--- src/check.rt:130:1
 returns-5 : tie.Need-returns-5
 returns-5 c = λ g h. c .is-rule-numbered .ensures g _ refl h ∙ rule-by-parts g _ _ _ _ (ne-eqb _ _ (c .before .before .before .before .before .before .if1 .left)) (under (ap (λ (x : Sizes). x .control) (h .sized)) refl (c .before .before .before .before .if2 .left)) (sym (ap (λ (x : Sizes). has (x .abelard) (c .before .before .before .before .before .before .before .before .args .state)) (h .sized)) ∙ sym (c .before .before .before .has-state .ensures) ∙ c .before .before .if3 .left) (ne-eqb _ _ (c .before .if4 .left))
 

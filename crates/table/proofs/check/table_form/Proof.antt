@@ -10,12 +10,6 @@ use Rattle.table.specs.Table.{formFrom, tableForm}
 use Rattle.table.proofs.Pass.{opens, refuses-length, goes, stops, ends, room, whole}
 use Rattle.table.proofs.check.table_form.Statement.{statement}
 use Rattle.table.proofs.check.table_form.Tie as tie
-use Rattle.table.proofs.check.table_form.Reads as reads
-use Rattle.table.proofs.check.table_form.Lts as lts
-use Rattle.table.proofs.check.does_pass.Reads as does-pass-reads
-use Rattle.table.proofs.check.is_length.Reads as is-length-reads
-use Rattle.table.proofs.entry.EntryWords.at.Reads as at-reads
-use Rattle.table.proofs.entry.EntryWords.none.Reads as none-reads
 
 abbrev Inv-loop : tie.InvT-loop
 Inv-loop sizes rules words before₀ i₀ before i =
@@ -26,32 +20,25 @@ Inv-loop sizes rules words before₀ i₀ before i =
 abbrev μ-loop : tie.MeasureT-loop
 μ-loop sizes rules words before₀ i₀ before i = length words / 3 - i
 
--- src/check.rt:25:9
 is-length-requires : tie.Need-is-length-requires Inv-loop μ-loop
 is-length-requires c κs = search needs
 
--- src/check.rt:26:9
 returns : tie.Need-returns Inv-loop μ-loop
 returns c = λ g h. sym (refuses-length g _ (sym (c .before .is-length .ensures) ∙ not-true _ (c .if1 .taken)))
 
--- src/check.rt:31:9
 none-requires : tie.Need-none-requires Inv-loop μ-loop
 none-requires c κs = search needs
 
--- src/check.rt:33:5
 loop-holds : tie.Need-loop-holds Inv-loop μ-loop
 loop-holds c =
     (omega arith, λ g h. rw (c .none .ensures) (opens g _ (sym (c .before .before .is-length .ensures) ∙ not-false _ (c .before .if1 .left))))
 
--- src/check.rt:34:13
 at-requires : tie.Need-at-requires Inv-loop μ-loop
 at-requires c κs = room (c .before .loop .i) _ (c .loop-test .taken)
 
--- src/check.rt:35:13
 does-pass-requires : tie.Need-does-pass-requires Inv-loop μ-loop
 does-pass-requires c κs = c .before .before .before .before .before .before .before .before .pre
 
--- src/check.rt:36:13
 returns-2 : tie.Need-returns-2 Inv-loop μ-loop
 returns-2 c =
     λ g h.
@@ -60,15 +47,12 @@ returns-2 c =
     ∙ stops g _ (c .before .before .before .before .loop .i) _ _ _ (room (c .before .before .before .before .loop .i) _ (c .before .before .before .loop-test .taken))
     (rw (c .before .before .at .ensures) at (sym (c .before .does-pass .ensures g h) ∙ not-true _ (c .if2 .taken))))
 
--- src/check.rt:42:9
 add-i : tie.Need-add-i Inv-loop μ-loop
 add-i c = omega arith
 
--- src/check.rt:33:5
 loop-less : tie.Need-loop-less Inv-loop μ-loop
 loop-less c = omega arith
 
--- src/check.rt:33:5
 loop-again : tie.Need-loop-again Inv-loop μ-loop
 loop-again c = (
   omega arith,
@@ -79,7 +63,6 @@ loop-again c = (
       (rw (c .before .before .at .ensures) at (sym (c .before .does-pass .ensures g h) ∙ not-false _ (c .if2 .left)))),
 )
 
--- src/check.rt:21:1
 returns-3 : tie.Need-returns-3 Inv-loop μ-loop
 returns-3 c =
     λ g h.

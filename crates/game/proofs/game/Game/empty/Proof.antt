@@ -2,10 +2,7 @@ use mathlib.Core.Path.{refl}
 use Rattle.game.specs.Stored.{padded, ruleBytes, targetWords}
 use Rattle.game.proofs.game.Game.empty.Statement.{statement}
 use Rattle.game.proofs.game.Game.empty.Tie as tie
-use Rattle.game.proofs.game.Game.empty.Reads as reads
-use Rattle.game.proofs.game.Game.empty.Lts as lts
 
--- src/game.rt:53:5
 returns : tie.Need-returns
 unfolding padded ruleBytes targetWords
 returns c = refl

@@ -8,14 +8,6 @@ use Rattle.game.specs.Questions.{reading}
 use Rattle.game.proofs.Going.{Going, start, stops, asks, further, refuses, fits, closes, goes, runs-out}
 use Rattle.game.proofs.game.Game.read.Statement.{statement}
 use Rattle.game.proofs.game.Game.read.Tie as tie
-use Rattle.game.proofs.game.Game.read.Reads as reads
-use Rattle.game.proofs.game.Game.read.Lts as lts
-use Rattle.game.proofs.command.command_at.Reads as command-at-reads
-use Rattle.game.proofs.game.Game.empty.Reads as empty-reads
-use Rattle.game.proofs.game.Game.with.Reads as with-reads
-use Rattle.game.proofs.question.ask_command.Reads as ask-command-reads
-use Rattle.game.proofs.reading.close.Reads as close-reads
-use Rattle.game.proofs.reading.refuse.Reads as refuse-reads
 
 abbrev Inv-loop : tie.InvT-loop
 Inv-loop file game₀ at₀ game at = Going file game at
@@ -23,89 +15,68 @@ Inv-loop file game₀ at₀ game at = Going file game at
 abbrev μ-loop : tie.MeasureT-loop
 μ-loop file game₀ at₀ game at = length file - at
 
--- src/reading.rt:24:13
 refuse-requires : tie.Need-refuse-requires Inv-loop μ-loop
 refuse-requires c κs = search needs
 
--- src/reading.rt:24:13
 returns : tie.Need-returns Inv-loop μ-loop
 unfolding reading
 returns c = rw (lt-ltb _ _ (c .before .if1 .taken)) (c .refuse .ensures)
 
--- src/reading.rt:27:13
 refuse-requires-2 : tie.Need-refuse-requires-2 Inv-loop μ-loop
 refuse-requires-2 c κs = search needs
 
--- src/reading.rt:27:13
 returns-2 : tie.Need-returns-2 Inv-loop μ-loop
 unfolding reading
 returns-2 c = rw (le-ltb _ _ (c .before .before .if1 .left), lt-ltb _ _ (c .before .if2 .taken)) (c .refuse2 .ensures)
 
--- src/reading.rt:29:13
 empty-requires : tie.Need-empty-requires Inv-loop μ-loop
 empty-requires c κs = search needs
 
--- src/reading.rt:31:9
 loop-holds : tie.Need-loop-holds Inv-loop μ-loop
 loop-holds c = start _ _ (c .before .before .if1 .left) (c .before .if2 .left) (c .empty .ensures)
 
--- src/reading.rt:32:17
 command-at-requires : tie.Need-command-at-requires Inv-loop μ-loop
 command-at-requires c κs = search needs
 
--- src/reading.rt:33:29
 enum-known-found : tie.Need-enum-known-found Inv-loop μ-loop
 enum-known-found c = search needs
 
--- src/reading.rt:34:17
 refuse-requires-3 : tie.Need-refuse-requires-3 Inv-loop μ-loop
 refuse-requires-3 c κs = search needs
 
--- src/reading.rt:34:17
 returns-3 : tie.Need-returns-3 Inv-loop μ-loop
 returns-3 c = rw (stops _ _ _ (c .before .before .before .before .loop .inv) (c .before .before .before .loop-test .taken) _ (c .before .before .command-at .ensures) (c .before .match .keys2)) (c .refuse3 .ensures)
 
--- src/reading.rt:36:17
 ask-command-requires : tie.Need-ask-command-requires Inv-loop μ-loop
 ask-command-requires c κs = asks _ _ _ (c .before .before .before .before .before .loop .inv) (c .before .before .before .before .loop-test .taken)
 
--- src/reading.rt:38:17
 refuse-requires-4 : tie.Need-refuse-requires-4 Inv-loop μ-loop
 refuse-requires-4 c κs = search needs
 
--- src/reading.rt:38:17
 returns-4 : tie.Need-returns-4 Inv-loop μ-loop
 returns-4 c = rw (refuses _ _ _ (c .before .before .before .before .before .before .before .before .loop .inv) (c .before .before .before .before .before .before .before .loop-test .taken) _ _ (sym (c .before .before .before .before .before .before .command-at .ensures) ∙ c .before .before .before .before .found .given .1) _ (c .before .before .ask-command .ensures _ (c .before .before .before .before .before .before .before .before .loop .inv .held)) (c .before .if3 .taken)) (c .refuse4 .ensures)
 
--- src/reading.rt:41:30
 enum-told : tie.Need-enum-told Inv-loop μ-loop
 enum-told c = search needs
 
--- src/reading.rt:41:17
 close-requires : tie.Need-close-requires Inv-loop μ-loop
 close-requires c κs = (c .before .before .before .before .before .before .before .before .loop-test .taken, asks _ _ _ (c .before .before .before .before .before .before .before .before .before .loop .inv) (c .before .before .before .before .before .before .before .before .loop-test .taken) .2)
 
--- src/reading.rt:41:17
 returns-5 : tie.Need-returns-5 Inv-loop μ-loop
 returns-5 c = rw (closes _ _ _ (c .before .before .before .before .before .before .before .before .before .before .loop .inv) (c .before .before .before .before .before .before .before .before .before .loop-test .taken) _ _ (sym (c .before .before .before .before .before .before .before .before .command-at .ensures) ∙ c .before .before .before .before .before .before .found .given .1) _ (c .before .before .before .before .ask-command .ensures _ (c .before .before .before .before .before .before .before .before .before .before .loop .inv .held)) (c .before .before .before .if3 .left) (c .before .enum-told .given .1)) (c .close .ensures _ (c .before .before .before .before .before .before .before .before .before .before .loop .inv .held))
 
--- src/reading.rt:43:17
 with-requires : tie.Need-with-requires Inv-loop μ-loop
 with-requires c κs = fits _ _ _ (c .before .before .before .before .before .before .before .before .loop .inv) (c .before .before .before .before .before .before .before .loop-test .taken) _ _ (sym (c .before .before .before .before .before .before .command-at .ensures) ∙ c .before .before .before .before .found .given .1) _ (c .before .before .ask-command .ensures _ (c .before .before .before .before .before .before .before .before .loop .inv .held)) (c .before .if3 .left)
 
--- src/reading.rt:31:9
 loop-less : tie.Need-loop-less Inv-loop μ-loop
 loop-less c = omega (arith, further _ _ _ (c .before .before .before .before .before .before .before .before .before .loop .inv) (c .before .before .before .before .before .before .before .before .loop-test .taken) _ _ (sym (c .before .before .before .before .before .before .before .command-at .ensures) ∙ c .before .before .before .before .before .found .given .1))
 
--- src/reading.rt:31:9
 loop-again : tie.Need-loop-again Inv-loop μ-loop
 loop-again c = goes _ _ _ (c .before .before .before .before .before .before .before .before .before .loop .inv) (c .before .before .before .before .before .before .before .before .loop-test .taken) _ _ (sym (c .before .before .before .before .before .before .before .command-at .ensures) ∙ c .before .before .before .before .before .found .given .1) _ (c .before .before .before .ask-command .ensures _ (c .before .before .before .before .before .before .before .before .before .loop .inv .held)) (c .before .before .if3 .left) _ (c .with .ensures _ (c .before .before .before .before .before .before .before .before .before .loop .inv .held)) (c .before .match2 .keys2)
 
--- src/reading.rt:47:9
 refuse-requires-5 : tie.Need-refuse-requires-5 Inv-loop μ-loop
 refuse-requires-5 c κs = search needs
 
--- src/reading.rt:20:5
 returns-6 : tie.Need-returns-6 Inv-loop μ-loop
 returns-6 c = rw (runs-out _ _ _ (c .before .before .loop .inv) (c .before .loop-test .left)) (c .refuse5 .ensures)
 

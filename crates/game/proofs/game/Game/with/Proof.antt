@@ -3,83 +3,61 @@ use Rattle.game.proofs.Tests.{shifted-one-word}
 use borrow.Author.Needs.{needs}
 use Rattle.game.proofs.game.Game.with.Statement.{statement}
 use Rattle.game.proofs.game.Game.with.Tie as tie
-use Rattle.game.proofs.game.Game.with.Reads as reads
-use Rattle.game.proofs.game.Game.with.Lts as lts
-use Rattle.game.proofs.game.Game.with_rule.Reads as with-rule-reads
-use Rattle.game.proofs.game.Game.with_target.Reads as with-target-reads
 
--- src/game.rt:76:30
 enum-known-command : tie.Need-enum-known-command
 enum-known-command c = search needs
 
--- src/game.rt:82:32
 enum-known-command-2 : tie.Need-enum-known-command-2
 enum-known-command-2 c = search needs
 
--- src/game.rt:83:56
 cast-next : tie.Need-cast-next
 cast-next c = search needs
 
--- src/game.rt:83:48
 shl-next : tie.Need-shl-next
 shl-next c = rw (c .before .command2 .given .1) at (c .before .before .before .pre)
 
--- src/game.rt:86:30
 enum-known-command-3 : tie.Need-enum-known-command-3
 enum-known-command-3 c = search needs
 
--- src/game.rt:87:54
 cast-next-2 : tie.Need-cast-next-2
 cast-next-2 c = search needs
 
--- src/game.rt:87:46
 shl-next-2 : tie.Need-shl-next-2
 shl-next-2 c = rw (c .before .command3 .given .1) at (c .before .before .before .pre)
 
--- src/game.rt:90:29
 enum-known-command-4 : tie.Need-enum-known-command-4
 enum-known-command-4 c = search needs
 
--- src/game.rt:91:17
 with-rule-requires : tie.Need-with-rule-requires
 with-rule-requires c κs = rw (c .before .command4 .given .1) at (c .before .before .before .pre)
 
--- src/game.rt:93:31
 enum-known-command-5 : tie.Need-enum-known-command-5
 enum-known-command-5 c = search needs
 
--- src/game.rt:93:55
 with-target-requires : tie.Need-with-target-requires
 with-target-requires c κs = rw (c .before .command5 .given .1) at (c .before .before .before .pre)
 
--- src/game.rt:94:29
 enum-told : tie.Need-enum-told
 enum-told c = search needs
 
--- src/game.rt:70:5
 returns : tie.Need-returns
 unfolding add
 returns c = λ g e. rw (c .before .command .given .1, e)
 
--- src/game.rt:70:5
 returns-2 : tie.Need-returns-2
 unfolding add
 returns-2 c = λ g e. rw (c .before .before .command2 .given .1, shifted-one-word (c .before .before .command2 .given .0 .0) (rw (c .before .before .command2 .given .1) at (c .before .before .before .before .pre)), e)
 
--- src/game.rt:70:5
 returns-3 : tie.Need-returns-3
 unfolding add
 returns-3 c = λ g e. rw (c .before .before .command3 .given .1, shifted-one-word (c .before .before .command3 .given .0 .0) (rw (c .before .before .command3 .given .1) at (c .before .before .before .before .pre)), e)
 
--- src/game.rt:70:5
 returns-4 : tie.Need-returns-4
 returns-4 c = λ g e. rw (c .before .before .command4 .given .1) (c .with-rule .ensures g e)
 
--- src/game.rt:70:5
 returns-5 : tie.Need-returns-5
 returns-5 c = λ g e. rw (c .before .before .command5 .given .1) (c .with-target .ensures g e)
 
--- src/game.rt:70:5
 returns-6 : tie.Need-returns-6
 unfolding add
 returns-6 c = λ g e. rw (c .enum-told .given .1) e

@@ -2,50 +2,37 @@ use Rattle.game.proofs.Grown.{with-target}
 use borrow.Author.Needs.{needs}
 use Rattle.game.proofs.game.Game.with_target.Statement.{statement}
 use Rattle.game.proofs.game.Game.with_target.Tie as tie
-use Rattle.game.proofs.game.Game.with_target.Reads as reads
-use Rattle.game.proofs.game.Game.with_target.Lts as lts
 
--- src/game.rt:120:18
 mul-at : tie.Need-mul-at
 mul-at c = search needs
 
--- src/game.rt:122:9
 mul-next : tie.Need-mul-next
 mul-next c = search needs
 
--- src/game.rt:122:9
 element-write-next : tie.Need-element-write-next
 element-write-next c = search needs
 
--- src/game.rt:123:22
 add-next : tie.Need-add-next
 add-next c = search needs
 
--- src/game.rt:123:9
 mul-next-2 : tie.Need-mul-next-2
 mul-next-2 c = search needs
 
--- src/game.rt:123:9
 element-write-next-2 : tie.Need-element-write-next-2
 element-write-next-2 c = search needs
 
--- src/game.rt:124:22
 add-next-2 : tie.Need-add-next-2
 add-next-2 c = search needs
 
--- src/game.rt:124:9
 mul-next-3 : tie.Need-mul-next-3
 mul-next-3 c = search needs
 
--- src/game.rt:124:9
 element-write-next-3 : tie.Need-element-write-next-3
 element-write-next-3 c = search needs
 
--- src/game.rt:125:28
 add-next-3 : tie.Need-add-next-3
 add-next-3 c = search needs
 
--- src/game.rt:115:5
 returns : tie.Need-returns
 returns c = λ g e. rw e (with-target g _ _ _ (rw e at (c .pre)))
 

@@ -2,20 +2,15 @@ use borrow.Author.Tests.{eq-eqb, ne-eqb}
 use Rattle.table.specs.Table.{unused}
 use Rattle.table.proofs.entry.EntryWords.is_unused.Statement.{statement}
 use Rattle.table.proofs.entry.EntryWords.is_unused.Tie as tie
-use Rattle.table.proofs.entry.EntryWords.is_unused.Reads as reads
-use Rattle.table.proofs.entry.EntryWords.is_unused.Lts as lts
 
--- src/entry.rt:47:13
 returns : tie.Need-returns
 unfolding unused
 returns c = rw (ne-eqb _ _ (c .if1 .taken))
 
--- src/entry.rt:50:13
 returns-2 : tie.Need-returns-2
 unfolding unused
 returns-2 c = rw (eq-eqb _ _ (c .before .before .if1 .left), ne-eqb _ _ (c .if2 .taken))
 
--- src/entry.rt:43:5
 returns-3 : tie.Need-returns-3
 unfolding unused
 returns-3 c = rw (eq-eqb _ _ (c .before .before .before .if1 .left), eq-eqb _ _ (c .before .if2 .left))

@@ -3,38 +3,28 @@ use Rattle.table.specs.Table.{key}
 use borrow.Author.Needs.{needs}
 use Rattle.table.proofs.entry.EntryWords.key.Statement.{statement}
 use Rattle.table.proofs.entry.EntryWords.key.Tie as tie
-use Rattle.table.proofs.entry.EntryWords.key.Reads as reads
-use Rattle.table.proofs.entry.EntryWords.key.Lts as lts
 
--- src/entry.rt:77:21
 cast-state : tie.Need-cast-state
 cast-state c = search needs
 
--- src/entry.rt:78:22
 cast-letter : tie.Need-cast-letter
 cast-letter c = search needs
 
--- src/entry.rt:79:19
 cast-set : tie.Need-cast-set
 cast-set c = search needs
 
--- src/entry.rt:80:10
 mul-result : tie.Need-mul-result
 mul-result c = search needs
 
--- src/entry.rt:80:10
 add-result : tie.Need-add-result
 add-result c = search needs
 
--- src/entry.rt:80:9
 mul-result-2 : tie.Need-mul-result-2
 mul-result-2 c = search needs
 
--- src/entry.rt:80:9
 add-result-2 : tie.Need-add-result-2
 add-result-2 c = search needs
 
--- src/entry.rt:74:5
 returns : tie.Need-returns
 unfolding key
 returns c = refl

@@ -1,10 +1,10 @@
--- `script::value_at` ends and is safe. The measure is what is left of the script.
+-- `text::value_at` ends and is safe. The measure is what is left of the script.
 -- Assumes nothing.
 use Prim.Native.Nat.{_-_}
 use borrow.Author.Needs.{needs}
 use lib.ListN.{length}
-use Rattle.game_cases.proofs.script.value_at.Statement.{statement}
-use Rattle.game_cases.proofs.script.value_at.Tie as tie
+use Rattle.script.proofs.text.value_at.Statement.{statement}
+use Rattle.script.proofs.text.value_at.Tie as tie
 
 abbrev Inv-loop : tie.InvT-loop
 Inv-loop script at base start i₀ value₀ i value = Unit

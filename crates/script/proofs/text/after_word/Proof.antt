@@ -1,25 +1,22 @@
--- `script::word_at` ends and is safe. The measure is what is left of the script.
+-- `text::after_word` ends and is safe. The measure is what is left of the script.
 -- Assumes nothing.
 use Prim.Native.Nat.{_-_}
 use borrow.Author.Needs.{needs}
 use lib.ListN.{length}
-use Rattle.game_cases.proofs.script.word_at.Statement.{statement}
-use Rattle.game_cases.proofs.script.word_at.Tie as tie
+use Rattle.script.proofs.text.after_word.Statement.{statement}
+use Rattle.script.proofs.text.after_word.Tie as tie
 
 abbrev Inv-loop : tie.InvT-loop
-Inv-loop script at i₀ comment₀ i comment = Unit
+Inv-loop script at i₀ i = Unit
 
 abbrev μ-loop : tie.MeasureT-loop
-μ-loop script at i₀ comment₀ i comment = length script - i
+μ-loop script at i₀ i = length script - i
 
 loop-holds : tie.Need-loop-holds Inv-loop μ-loop
 loop-holds c = search needs
 
-shared-slice-read-c : tie.Need-shared-slice-read-c Inv-loop μ-loop
-shared-slice-read-c c = search needs
-
-is-text-requires : tie.Need-is-text-requires Inv-loop μ-loop
-is-text-requires c κs = search needs
+shared-slice-read-if1 : tie.Need-shared-slice-read-if1 Inv-loop μ-loop
+shared-slice-read-if1 c = search needs
 
 returns : tie.Need-returns Inv-loop μ-loop
 returns c = search needs
@@ -36,15 +33,14 @@ loop-again c = search needs
 returns-2 : tie.Need-returns-2 Inv-loop μ-loop
 returns-2 c = search needs
 
-pub word-at-spec : {M : Type 1} → statement M
-word-at-spec =
+pub after-word-spec : {M : Type 1} → statement M
+after-word-spec =
     tie.close
     (tie.spec
     Inv-loop
     μ-loop
     loop-holds
-    shared-slice-read-c
-    is-text-requires
+    shared-slice-read-if1
     returns
     add-i
     loop-less

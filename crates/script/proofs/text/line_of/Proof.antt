@@ -1,10 +1,10 @@
--- `script::line_of` ends and is safe. The measure is what is left of the script.
+-- `text::line_of` ends and is safe. The measure is what is left of the script.
 -- Assumes nothing.
 use Prim.Native.Nat.{_-_}
 use borrow.Author.Needs.{needs}
 use lib.ListN.{length}
-use Rattle.game_cases.proofs.script.line_of.Statement.{statement}
-use Rattle.game_cases.proofs.script.line_of.Tie as tie
+use Rattle.script.proofs.text.line_of.Statement.{statement}
+use Rattle.script.proofs.text.line_of.Tie as tie
 
 abbrev Inv-loop : tie.InvT-loop
 Inv-loop script at line₀ i₀ line i = Unit
