@@ -9,6 +9,7 @@ pub mod Questions
 pub mod Position
 pub mod Win
 pub mod ListLaws
+pub mod WinLaws
 pub mod StoredLaws
 pub mod GoodGame
 pub mod NumberLaws

@@ -1,11 +1,11 @@
 // Cases of refused files.
 use crate::accepted::is_nothing;
-use crate::build::front;
-use crate::build::put;
 use crate::tally::Tally;
 use game::Game;
 use script::Numbers;
 use script::byte_of;
+use script::front;
+use script::put;
 use script::up;
 
 // One case: the file is refused by this question at this place, and the game handed out is all zero.

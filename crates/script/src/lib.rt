@@ -1,6 +1,12 @@
-// The text of the scripts that test programs read: words, numbers and bytes.
+// Scripts that test programs read: their words, numbers and bytes, and files built in a buffer.
+mod build;
 mod text;
 
+pub use build::front;
+pub use build::put;
+pub use build::put_d;
+pub use build::put_long;
+pub use build::put_times;
 pub use text::Numbers;
 pub use text::Value;
 pub use text::after_word;
@@ -14,3 +20,4 @@ pub use text::value_at;
 pub use text::wide;
 pub use text::word;
 pub use text::word_at;
+pub use text::word_of;

@@ -135,7 +135,7 @@ fn digit(c: u8) -> usize {
 
 // A value with one digit more. No script has one near the number at which it stays.
 fn grown(value: usize, base: usize, d: usize) -> usize {
-    if 1000000000000 < value {
+    if 100000000000000000 < value {
         return value;
     }
     if 16 < d {
@@ -174,6 +174,11 @@ pub fn word(x: u32) -> usize {
 // A number as a byte; 255 where it is larger.
 pub fn byte_of(x: usize) -> u8 {
     if x < 256 { x as u8 } else { 255 }
+}
+
+// A number as a word of 32 bits; the largest where it is larger.
+pub fn word_of(x: usize) -> u32 {
+    if x < 4294967296 { x as u32 } else { 4294967295 }
 }
 
 // A byte of a list, 0 past its end.

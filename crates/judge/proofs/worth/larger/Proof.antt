@@ -1,4 +1,5 @@
 use mathlib.Core.Path.{sym, _∙_}
+use native.Mathlib.Omega.{arith}
 use Rattle.judge.proofs.Tests.{more, most}
 use borrow.Author.Tests.{not-true, not-false}
 use borrow.Author.Needs.{needs}
@@ -18,7 +19,7 @@ element-copy-out-worth : tie.Need-element-copy-out-worth
 element-copy-out-worth c = search needs
 
 returns-2 : tie.Need-returns-2
-returns-2 c = rw (sym (c .before .before .before .has-state .ensures) ∙ not-false _ (c .before .before .if1 .left)) (more _ _ (c .if2 .taken))
+returns-2 c = rw (sym (c .before .before .before .has-state .ensures) ∙ not-false _ (c .before .before .if1 .left)) (more _ _ (omega (arith, c .if2 .taken)))
 
 returns-3 : tie.Need-returns-3
 returns-3 c = rw (sym (c .before .before .before .has-state .ensures) ∙ not-false _ (c .before .before .if1 .left)) (most _ _ (c .if2 .left))

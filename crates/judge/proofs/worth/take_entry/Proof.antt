@@ -28,7 +28,7 @@ element-copy-out-if2 : tie.Need-element-copy-out-if2
 element-copy-out-if2 c = below-all (c .state .ensures) (on-state _ _ _ _ _ (sym (c .before .before .before .is-on-letter .ensures) ∙ not-false _ (c .before .before .if1 .left))) (c .before .before .before .before .pre .0)
 
 returns-2 : tie.Need-returns-2
-returns-2 c = taken-same _ _ _ _ _ _ _ (sym (c .before .before .before .before .before .is-on-letter .ensures) ∙ not-false _ (c .before .before .before .before .if1 .left)) _ _ (c .before .before .state .ensures) (c .before .before .before .entry-worth .ensures) (c .if2 .taken)
+returns-2 c = taken-same _ _ _ _ _ _ _ (sym (c .before .before .before .before .before .is-on-letter .ensures) ∙ not-false _ (c .before .before .before .before .if1 .left)) _ _ (c .before .before .state .ensures) (c .before .before .before .entry-worth .ensures) (omega (arith, c .if2 .taken))
 
 mul-out : tie.Need-mul-out
 mul-out c = search needs

@@ -1,29 +1,26 @@
--- `build::put_long` ends and is safe. The loop keeps the buffer's length. The measure is how many operands are left.
+-- `build::clear` ends and is safe. The loop keeps the table's length, and its test is the index's bound. The measure is what is left of the table.
 -- Assumes nothing.
 use Prim.Native.Nat.{_-_}
 use borrow.Author.Needs.{needs}
 use lib.ListN.{length}
 use mathlib.Core.Path.{_≡_}
-use Rattle.game_cases.proofs.build.put_long.Statement.{statement}
-use Rattle.game_cases.proofs.build.put_long.Tie as tie
+use Rattle.judge_cases.proofs.build.clear.Statement.{statement}
+use Rattle.judge_cases.proofs.build.clear.Tie as tie
 
 abbrev Inv-loop : tie.InvT-loop
-Inv-loop file₀ at code b to₀ i₀ file to i = length file ≡ length file₀
+Inv-loop words₀ i₀ words i = length words ≡ length words₀
 
 abbrev μ-loop : tie.MeasureT-loop
-μ-loop file₀ at code b to₀ i₀ file to i = 6 - i
-
-put-requires : tie.Need-put-requires Inv-loop μ-loop
-put-requires c κs = search needs
+μ-loop words₀ i₀ words i = length words₀ - i
 
 loop-holds : tie.Need-loop-holds Inv-loop μ-loop
 loop-holds c = search needs
 
-array-read-put : tie.Need-array-read-put Inv-loop μ-loop
-array-read-put c = search needs
+mul-words : tie.Need-mul-words Inv-loop μ-loop
+mul-words c = search needs
 
-put-requires-2 : tie.Need-put-requires-2 Inv-loop μ-loop
-put-requires-2 c κs = search needs
+slice-write-words : tie.Need-slice-write-words Inv-loop μ-loop
+slice-write-words c = search needs
 
 add-i : tie.Need-add-i Inv-loop μ-loop
 add-i c = search needs
@@ -40,16 +37,15 @@ same-length c = search needs
 returns : tie.Need-returns Inv-loop μ-loop
 returns c = search needs
 
-pub put-long-spec : {M : Type 1} → statement M
-put-long-spec =
+pub clear-spec : {M : Type 1} → statement M
+clear-spec =
     tie.close
     (tie.spec
     Inv-loop
     μ-loop
-    put-requires
     loop-holds
-    array-read-put
-    put-requires-2
+    mul-words
+    slice-write-words
     add-i
     loop-less
     loop-again

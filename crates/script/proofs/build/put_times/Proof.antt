@@ -4,8 +4,8 @@ use Prim.Native.Nat.{_-_}
 use borrow.Author.Needs.{needs}
 use lib.ListN.{length}
 use mathlib.Core.Path.{_≡_}
-use Rattle.game_cases.proofs.build.put_times.Statement.{statement}
-use Rattle.game_cases.proofs.build.put_times.Tie as tie
+use Rattle.script.proofs.build.put_times.Statement.{statement}
+use Rattle.script.proofs.build.put_times.Tie as tie
 
 abbrev Inv-loop : tie.InvT-loop
 Inv-loop file₀ at n x to₀ i₀ file to i = length file ≡ length file₀

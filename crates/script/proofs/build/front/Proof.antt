@@ -4,8 +4,8 @@ use borrow.Author.Needs.{needs}
 use lib.Seq.{length-take-le}
 use mathlib.Core.Path.{sym}
 use native.Mathlib.Omega.{arith}
-use Rattle.game_cases.proofs.build.front.Statement.{statement}
-use Rattle.game_cases.proofs.build.front.Tie as tie
+use Rattle.script.proofs.build.front.Statement.{statement}
+use Rattle.script.proofs.build.front.Tie as tie
 
 returns : tie.Need-returns
 returns c = search needs

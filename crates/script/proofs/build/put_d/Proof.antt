@@ -4,8 +4,8 @@ use Prim.Native.Nat.{_-_}
 use borrow.Author.Needs.{needs}
 use lib.ListN.{length}
 use mathlib.Core.Path.{_≡_}
-use Rattle.game_cases.proofs.build.put_d.Statement.{statement}
-use Rattle.game_cases.proofs.build.put_d.Tie as tie
+use Rattle.script.proofs.build.put_d.Statement.{statement}
+use Rattle.script.proofs.build.put_d.Tie as tie
 
 abbrev Inv-loop : tie.InvT-loop
 Inv-loop file₀ n to at₀ j₀ file at j = length file ≡ length file₀
