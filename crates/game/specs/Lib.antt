@@ -12,6 +12,7 @@ pub mod ListLaws
 pub mod WinLaws
 pub mod StoredLaws
 pub mod GoodGame
+pub mod FormKept
 pub mod NumberLaws
 pub mod Reads
 pub mod Held

@@ -1,5 +1,4 @@
 pub mod Session
 pub mod SessionLaws
 pub mod NumberedLaws
-pub mod FormLaws
 pub mod MoveLaws

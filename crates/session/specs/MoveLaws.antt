@@ -22,7 +22,7 @@ use Rattle.session.specs.declared.playing.Session.{Session}
 use Rattle.session.specs.Session.{bottomFirst, position, sessionOf, sessionInForm, numbered, fitting, replaced, turn, moving, movingIn, moved, move}
 use Rattle.session.specs.SessionLaws.{length-bottomFirst, position-of}
 use Rattle.session.specs.NumberedLaws.{numbered-in}
-use Rattle.session.specs.FormLaws.{form-kept}
+use Rattle.game.specs.FormKept.{form-kept}
 
 -- What a played move is, between the sessions before and after it: the rule of that number of the head replaces the top letter of
 -- the position, the form is kept, and the cells from the height up are 0.

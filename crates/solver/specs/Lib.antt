@@ -25,5 +25,7 @@ pub mod Growing
 pub mod GrowingLaws
 pub mod Filled
 pub mod Memo
-pub mod Jobs
 pub mod InsertLaws
+pub mod Jobs
+pub mod JobLaws
+pub mod NextLaws

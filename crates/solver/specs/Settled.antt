@@ -2,23 +2,24 @@
 use Prim.Native.Nat.{ℕ, zero, suc, _+_, _<_}
 use native.Mathlib.Nat.{le-refl}
 use mathlib.Core.Path.{_≡_, refl, sym, subst}
-use mathlib.Core.Logic.{inl, inr, ⊎-elim}
-use mathlib.Core.Bool.{true, false, not}
-use mathlib.Core.List.{List, [], _∷_, _++_, map, append-nil}
-use lib.Dec.{ltb, eqb}
-use borrow.Author.Tests.{ltb-true, lt-ltb, not-true}
+use mathlib.Core.Logic.{inl, inr}
+use mathlib.Core.Bool.{true}
+use mathlib.Core.List.{List, [], _∷_, _++_, map}
+use lib.Dec.{ltb}
+use borrow.Author.Tests.{ltb-true}
 use Rattle.game.specs.Sets.{has}
-use Rattle.game.specs.Game.{Rule, PushdownGame, wordOf, rulesOf}
-use Rattle.game.specs.Questions.{bottomLast, noBottom, bottomKept}
+use Rattle.game.specs.Game.{Rule, PushdownGame, rulesOf}
+use Rattle.game.specs.Questions.{bottomKept}
 use Rattle.game.specs.Win.{Position, lettersBelow, inTarget, Forces, WonIn}
 use Rattle.table.specs.Table.{Entry}
-use Rattle.game.specs.ListLaws.{_∈_, test, clash, both, conj, map-in, common}
+use Rattle.game.specs.ListLaws.{_∈_, both, map-in, common}
 use Rattle.judge.specs.Worth.{automaton, baseWeight}
 use Rattle.judge.specs.Within.{Within, within-raise}
 use Rattle.judge.specs.Target.{HoldsTarget, is-head, target-within}
 use Rattle.judge.specs.PositionLaws.{Formed}
 use Rattle.solver.specs.Rounds.{ruleEnds, entryAt, candidates, isThere, settled}
 use Rattle.game.specs.GoodGame.{Good}
+use Rattle.game.specs.FormKept.{bottom-kept, letters-over, letters-written}
 use Rattle.solver.specs.EndsLaws.{Inside, unions-full, run-split}
 use Rattle.solver.specs.EndsRange.{Proper}
 use Rattle.solver.specs.AddLaws.{isThere-in, every-at}
@@ -43,44 +44,6 @@ settled-closed g good table ranged h p a x field lp la gives =
     let k = parts g good table proper {s = e .0 .state} {s′ = p} (r .letter) la (r .set) (gives-proper g good table proper lp la gives) (e .2) in
     (e .0, e .1, k .0, k .1, k .2)
 
--- a letter that is not the bottom above a stack in form
-bottom-cons : (c : ℕ) (v : List ℕ) → not (eqb c 0) ≡ true → bottomLast v ≡ true → bottomLast (c ∷ v) ≡ true
-unfolding bottomLast
-bottom-cons c [] h k = clash k refl
-bottom-cons c (b ∷ v) h k = conj h k
-
-bottom-over : (w v : List ℕ) → noBottom w ≡ true → bottomLast v ≡ true → bottomLast (w ++ v) ≡ true
-unfolding noBottom
-bottom-over [] v h k = k
-bottom-over (c ∷ w) v h k =
-    let p = both (not (eqb c 0)) (noBottom w) h in
-    bottom-cons c (w ++ v) (p .0) (bottom-over w v (p .1) k)
-
--- what a rule that keeps the bottom writes over the rest keeps it last
-bottom-kept : (a : ℕ) (w rest : List ℕ) → bottomKept a w ≡ true → bottomLast (a ∷ rest) ≡ true → bottomLast (w ++ rest) ≡ true
-unfolding bottomKept bottomLast
-bottom-kept a w [] h k = rw (append-nil w) (rw k at h)
-bottom-kept a w (b ∷ rest) h k =
-    let p = both (not (eqb a 0)) (bottomLast (b ∷ rest)) k in
-    bottom-over w (b ∷ rest) (rw (not-true (eqb a 0) (p .0)) at h) (p .1)
-
-letters-over : (n : ℕ) (w v : List ℕ) → lettersBelow n w ≡ true → lettersBelow n v ≡ true → lettersBelow n (w ++ v) ≡ true
-unfolding lettersBelow
-letters-over n [] v h k = k
-letters-over n (c ∷ w) v h k =
-    let p = both (ltb c n) (lettersBelow n w) h in
-    conj (p .0) (letters-over n w v (p .1) k)
-
-letters-written : (n : ℕ) (r : Rule) → r .above < n → r .below < n → lettersBelow n (written r) ≡ true
-unfolding lettersBelow wordOf
-letters-written n r a b =
-    let x = lt-ltb (r .above) n a in
-    let y = lt-ltb (r .below) n b in
-    ⊎-elim (λ (t : eqb (r .count) 0 ≡ true). rw t)
-    (λ (t : eqb (r .count) 0 ≡ false).
-    ⊎-elim (λ (u : eqb (r .count) 1 ≡ true). rw (t, u, x)) (λ (u : eqb (r .count) 1 ≡ false). rw (t, u, x, y)) (test (eqb (r .count) 1)))
-    (test (eqb (r .count) 0))
-
 -- every move keeps the form
 pub form-kept : (g : PushdownGame) → Good g → (p a : ℕ) (rest : List ℕ) → Formed g p (a ∷ rest) → (r : Rule) → r ∈ rulesOf g p a
     → Formed g (r .to) (written r ++ rest)
@@ -91,7 +54,7 @@ form-kept g good p a rest f r m =
     let l = both (ltb a (g .letters)) (lettersBelow (g .letters) rest) (f .letters) in
     record {
       state = h .to;
-      letters = letters-over (g .letters) (written r) rest (letters-written (g .letters) r (h .above) (h .below)) (l .1);
+      letters = letters-over (g .letters) (written r) rest (letters-written (g .letters) (r .count) (r .above) (r .below) (h .above) (h .below)) (l .1);
       bottom = bottom-kept a (written r) rest (subst (λ (n : ℕ). bottomKept n (written r) ≡ true) (i .2) (h .bottom)) (f .bottom);
     }
 
