@@ -29,3 +29,4 @@ pub mod InsertLaws
 pub mod Jobs
 pub mod JobLaws
 pub mod NextLaws
+pub mod MemoLaws

@@ -62,14 +62,14 @@ module _ (g : PushdownGame) (p a : ℕ) (rules slack : List ℕ) (written : rule
       let hit = sym (head-at r (omega arith)) ∙ next .found l in
       let m : end - r ≡ suc (end - suc r) = omega arith in (
         skipped (ofHead p a) (r - from) from r (end - r) (end - from) (g .rules) (omega (arith, next .after)) (omega (arith, next .after)) (omega arith)
-        (λ k h i. sym (head-at k (omega arith)) ∙ next .skipped k h i)
-        ∙ ap (λ (n : ℕ). filter (ofHead p a) (take n (drop r (g .rules)))) m
-        ∙ window-step (ofHead p a) r (end - suc r) (g .rules) (omega arith)
-        ∙ ap
-        (λ (kept : Bool).
-        cond kept (getD (g .rules) r noRule ∷ filter (ofHead p a) (take (end - suc r) (drop (suc r) (g .rules))))
-        (filter (ofHead p a) (take (end - suc r) (drop (suc r) (g .rules)))))
-        hit,
+            (λ k h i. sym (head-at k (omega arith)) ∙ next .skipped k h i)
+            ∙ ap (λ (n : ℕ). filter (ofHead p a) (take n (drop r (g .rules)))) m
+            ∙ window-step (ofHead p a) r (end - suc r) (g .rules) (omega arith)
+            ∙ ap
+            (λ (kept : Bool).
+            cond kept (getD (g .rules) r noRule ∷ filter (ofHead p a) (take (end - suc r) (drop (suc r) (g .rules))))
+            (filter (ofHead p a) (take (end - suc r) (drop (suc r) (g .rules)))))
+            hit,
         hit,
       )
 
