@@ -1,3 +1,4 @@
+pub mod Enumerating
 pub mod Heads
 pub mod Inserting
 pub mod Lines
