@@ -13,7 +13,7 @@ use Rattle.solver.specs.Enumeration.{restRuns}
 use Rattle.solver.specs.Growing.{Growing, grow, growing}
 use Rattle.solver.specs.GrowingLaws.{grown-held}
 use Rattle.solver.specs.Filled.{Small, Stored, Filled}
-use Rattle.solver.specs.WordLaws.{word-entry, words-length}
+use Rattle.table.specs.WordLaws.{word-entry, words-length}
 use Rattle.solver.specs.InsertLaws.{noEntry}
 use Rattle.solver.specs.Memo.{Line, lineAt}
 use Rattle.solver.specs.Jobs.{Stands, Entered, Finished, Whole, subRuns, subEntries, endOf, fieldOf, tagOf}

@@ -14,7 +14,6 @@ pub mod Falling
 pub mod Settled
 pub mod PlayLaws
 pub mod PlayTheorem
-pub mod WordLaws
 pub mod SolvingLaws
 pub mod Reported
 pub mod Solution

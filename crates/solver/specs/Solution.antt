@@ -28,7 +28,7 @@ use Rattle.solver.specs.RoundLaws.{round-ranged}
 use Rattle.solver.specs.Sound.{Sound, round-sound}
 use Rattle.solver.specs.Settled.{Closed, settled-closed, won-within}
 use Rattle.solver.specs.PlayTheorem.{bound-won}
-use Rattle.solver.specs.WordLaws.{form-bytes, words-entries, words-length, words-pass}
+use Rattle.table.specs.WordLaws.{form-bytes, words-entries, words-length, words-pass}
 use Rattle.solver.specs.SolvingLaws.{SolvedAt, solved-at}
 
 pub done-same : {A : Type 0} {x y : A} → done x ≡ done y → x ≡ y

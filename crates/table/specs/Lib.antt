@@ -4,3 +4,4 @@ pub mod Pairwise
 pub mod OrderLaws
 pub mod Rows
 pub mod RowLaws
+pub mod WordLaws
