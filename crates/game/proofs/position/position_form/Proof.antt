@@ -1,3 +1,5 @@
+-- What question 14 says of the bytes is what it says of the stack from byte i on. Letters before the last are asked one by one,
+-- the last after the loop. The measure is how many letters are before the last. Assumes nothing.
 use Prim.Native.Nat.{_≤_, _-_}
 use mathlib.Core.Path.{_≡_, refl, sym, ap, _∙_}
 use native.Mathlib.Omega.{arith}

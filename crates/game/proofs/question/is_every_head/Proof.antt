@@ -1,3 +1,5 @@
+-- Every control state below p has a rule on every letter. At the first without one the answer is no; at P every head has one.
+-- The measure is how many control states are left. Assumes what the contract requires.
 use Prim.Native.Nat.{ℕ, _≤_, _<_, _*_, _-_}
 use mathlib.Core.Path.{_≡_, refl, sym, _∙_}
 use mathlib.Core.Bool.{true, false}

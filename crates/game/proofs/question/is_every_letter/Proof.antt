@@ -1,3 +1,5 @@
+-- Every letter below the one looked at has a rule of this control state. The measure is how many letters are left.
+-- Assumes what the contract requires.
 use Prim.Native.Nat.{ℕ, _≤_, _<_, _*_, _-_}
 use mathlib.Core.Path.{_≡_, refl, sym, _∙_}
 use mathlib.Core.Bool.{true, false}

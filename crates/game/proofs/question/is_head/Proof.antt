@@ -1,3 +1,5 @@
+-- No rule before place i is one of the head. A rule that is one ends the search; at the end there is none.
+-- The measure is how many rules are left. Assumes what the contract requires.
 use Prim.Native.Nat.{ℕ, _≤_, _<_, _*_, _-_}
 use mathlib.Core.Path.{_≡_, refl, sym, _∙_}
 use mathlib.Core.Bool.{false}

@@ -1,3 +1,5 @@
+-- No rule before place i is the one asked for. The measure is how many rules are left.
+-- Assumes what the contract requires.
 use Prim.Native.Nat.{ℕ, _≤_, _<_, _*_, _-_}
 use mathlib.Core.Path.{_≡_, refl, sym, _∙_}
 use mathlib.Core.Bool.{false}

@@ -1,3 +1,5 @@
+-- The least rule field of the entries before i, of least worth, stands for the advice over them (`Ruling`): the advice over the
+-- whole table is that over the rest with this one in hand. The measure is how many entries are left. Assumes what the contract requires.
 use Prim.Native.Nat.{_-_, _/_, _≤_}
 use native.Mathlib.Omega.{arith}
 use lib.ListN.{length}

@@ -1,3 +1,5 @@
+-- Over no letters the worths are those of the final states. Over a letter and a rest they are the step of the letter over the
+-- worths of the rest, which the call gives. The measure is the length of the stack. Assumes what the contract requires.
 use lib.ListN.{length}
 use denote.Ref.{now}
 use Prim.Native.Nat.{_-_, _≤_}

@@ -1,3 +1,5 @@
+-- The first q places hold the worths of the empty stack, the others none. The measure is how many states are left.
+-- Assumes what the contract requires.
 use Prim.Native.Nat.{_-_}
 use native.Mathlib.Omega.{arith}
 use borrow.Author.Needs.{needs}

@@ -1,3 +1,5 @@
+-- The largest worth of the members below state s. The measure is how many states are left.
+-- Assumes what the contract requires.
 use Prim.Native.Nat.{_-_, _≤_}
 use mathlib.Core.Path.{_≡_, refl, sym, ap, _∙_}
 use native.Mathlib.Omega.{arith}

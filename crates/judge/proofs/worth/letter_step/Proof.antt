@@ -1,3 +1,5 @@
+-- The worths after the entries before i stand for the least ones over them (`Stepping`): each entry lowers one place or none.
+-- The measure is how many entries are left. Assumes what the contract requires.
 use Prim.Native.Nat.{_*_, _-_, _/_, _≤_}
 use native.Mathlib.Omega.{arith}
 use lib.ListN.{length}

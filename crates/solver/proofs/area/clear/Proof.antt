@@ -1,3 +1,4 @@
+-- The words before place i are 0, the others as they were. The measure is how many words are left. Assumes nothing.
 use Prim.Native.Nat.{_-_}
 use mathlib.Core.Path.{refl, sym, _∙_}
 use native.Mathlib.Omega.{arith}

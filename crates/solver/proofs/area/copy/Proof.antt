@@ -1,3 +1,5 @@
+-- The words before place i are those copied, the others as they were. The measure is how many words are left.
+-- Assumes what the contract requires.
 use Prim.Native.Nat.{_-_}
 use mathlib.Core.Path.{refl, sym, _∙_}
 use native.Mathlib.Omega.{arith}

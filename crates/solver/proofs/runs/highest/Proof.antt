@@ -1,3 +1,4 @@
+-- No state above s is in the set. The first one met from the top is the highest. The measure is s. Assumes nothing.
 use native.Mathlib.Omega.{arith}
 use Rattle.solver.proofs.Heads.{Falling, top, falls, stops, last}
 use Rattle.solver.proofs.runs.highest.Statement.{statement}

@@ -1,3 +1,5 @@
+-- No rule from `from` up to place r is one of the head. The measure is how many rules are left.
+-- Assumes what the contract requires.
 use Prim.Native.Nat.{_-_}
 use mathlib.Core.Path.{sym, _∙_}
 use native.Mathlib.Omega.{arith}

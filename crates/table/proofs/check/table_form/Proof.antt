@@ -1,3 +1,5 @@
+-- What question 13 says of the words is what it says of those from entry i on, the entry before in hand. An entry that does not
+-- pass is the place. The measure is how many entries are left. Assumes what the contract requires.
 use Prim.Native.Nat.{_*_, _-_, _/_, _≤_}
 use mathlib.Core.Path.{_≡_, sym, _∙_}
 use native.Mathlib.Omega.{arith}

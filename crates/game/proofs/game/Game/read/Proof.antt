@@ -1,3 +1,6 @@
+-- The walk stands at an offset with the game so far: what `reading` says of the file is what the walk from here says (`Going`).
+-- Each command that passes 3 to 7 moves both on by it; a refusal, the end and FF are what the definition says there.
+-- The measure is how many bytes are left: every command has at least one. Assumes nothing.
 use Prim.Native.Nat.{_-_}
 use mathlib.Core.Path.{refl, sym, ap, _∙_}
 use native.Mathlib.Omega.{arith}
