@@ -3,3 +3,4 @@ pub mod Heads
 pub mod Inserting
 pub mod Lines
 pub mod Moving
+pub mod Parts
