@@ -4,3 +4,4 @@ pub mod Inserting
 pub mod Lines
 pub mod Moving
 pub mod Parts
+pub mod Turns

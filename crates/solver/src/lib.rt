@@ -1,7 +1,7 @@
 // The solver: from a game file to the table of the rounds, in lent areas.
 //
 // The work area holds the old round while the table grows, so that a round sees the runs of the round before it alone.
-// Here are its parts: an entry added to a table, the areas, and the memo of a round.
+// Here are its parts: an entry added to a table, the areas, the memo of a round, and the enumeration of runs.
 mod adding;
 mod area;
 mod memo;
@@ -15,5 +15,8 @@ pub use memo::is_finished;
 pub use runs::Job;
 pub use runs::highest;
 pub use runs::joined;
+pub use runs::left_over;
 pub use runs::next_rule;
+pub use runs::rules_from;
+pub use runs::runs_with;
 pub use runs::tag_of;
