@@ -5,3 +5,8 @@ pub mod Lines
 pub mod Moving
 pub mod Parts
 pub mod Turns
+pub mod RoundsTaken
+pub mod Targets
+pub mod Rounding
+pub mod RoundTurns
+pub mod Answers

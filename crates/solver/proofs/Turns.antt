@@ -24,15 +24,15 @@ use Rattle.solver.specs.Enumeration.{restRuns}
 use Rattle.solver.specs.Growing.{Growing, grow, growing}
 use Rattle.solver.specs.Filled.{Filled, Small}
 use Rattle.solver.specs.InsertLaws.{noEntry, getD-in}
-use Rattle.solver.specs.Memo.{Line, lineAt}
-use Rattle.solver.specs.Jobs.{Able, Late, Whole, Entered, Finished, NextRule, Highest, rulesBetween, subRuns, beginRuns, passRuns, tagOf}
+use Rattle.solver.specs.Memo.{lineAt}
+use Rattle.solver.specs.Jobs.{Late, Whole, Entered, Finished, NextRule, Highest, rulesBetween, subRuns, beginRuns, passRuns, tagOf}
 use Rattle.solver.specs.JobLaws.{none-left, highest-first, passOf, pass-at}
 use Rattle.solver.specs.NextLaws.{next-is, none-next, beginOf, begin-at, pops, writes}
 use Rattle.solver.specs.declared.runs.Job.{Job}
 use Rattle.solver.proofs.Heads.{shifted-one}
-use Rattle.solver.proofs.Enumerating.{given, unchanged, named, noted, Scanning, scan-starts, scan-next, scan-ends, entry-small, added}
+use Rattle.solver.proofs.Enumerating.{unchanged, named, noted, entry-small, added}
 use Rattle.solver.proofs.Inserting.{long}
-use Rattle.solver.proofs.Parts.{smaller, union-some, whole, later, entry-at, rule-at}
+use Rattle.solver.proofs.Parts.{smaller, union-some, whole, entry-at, rule-at}
 
 -- a set without its highest state, as the code takes the rest
 pub rest-is : (left q : ℕ) → Highest left q → left % (1 * 2 ^ q % 4294967296) ≡ left % 2 ^ q

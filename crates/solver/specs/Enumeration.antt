@@ -21,7 +21,7 @@ stateRuns g old c rs [] u = restRuns g old rs u
 stateRuns g old c rs (s ∷ ss) u = flatMap (λ x. stateRuns g old c rs ss (union u x)) (setsOf old s c)
 
 module _ {A B : Type 0} where
-  flatMap-append : (f : A → List B) (xs ys : List A) → flatMap f (xs ++ ys) ≡ flatMap f xs ++ flatMap f ys
+  pub flatMap-append : (f : A → List B) (xs ys : List A) → flatMap f (xs ++ ys) ≡ flatMap f xs ++ flatMap f ys
   unfolding flatMap
   flatMap-append f [] ys = refl
   flatMap-append f (x ∷ xs) ys = ap (f x ++_) (flatMap-append f xs ys) ∙ sym (append-assoc (f x) (flatMap f xs) (flatMap f ys))

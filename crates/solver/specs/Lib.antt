@@ -1,5 +1,7 @@
 pub mod Rounds
 pub mod Solving
+pub mod Leaving
+pub mod Given
 pub mod UnionLaws
 pub mod Enumeration
 pub mod MemberLaws
@@ -29,3 +31,6 @@ pub mod Jobs
 pub mod JobLaws
 pub mod NextLaws
 pub mod MemoLaws
+pub mod RoundJobs
+pub mod RoundJobLaws
+pub mod GrownRound

@@ -29,7 +29,7 @@ latest-least [] m = absurd (List·Memᴰ·not-nil m)
 latest-least (x ∷ es) {e} m =
     ⊎-elim (λ (p : e ≡ x). omega (arith, ap (λ (y : Entry). y .birthdate) p)) (λ n. omega (arith, latest-least es n)) (List·Memᴰ·cases-cons m)
 
-fails-at : {A : Type 0} (f : A → Bool) (xs : List A) → every f xs ≡ false → (x : A) × x ∈ xs × (f x ≡ false)
+pub fails-at : {A : Type 0} (f : A → Bool) (xs : List A) → every f xs ≡ false → (x : A) × x ∈ xs × (f x ≡ false)
 unfolding every
 fails-at f [] h = clash refl h
 fails-at f (x ∷ xs) h =

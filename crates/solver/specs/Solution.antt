@@ -40,7 +40,7 @@ after-done (done x) f h = (x, refl, h)
 after-done (refused n k) f h = let z : _≡_ {A = ℕ} 0 1 = cc in absurd (omega arith)
 
 -- a length in form is that of whole entries
-in-entries : (n : ℕ) → lengthInForm n ≡ true → n ≡ entryStride * (n / entryStride)
+pub in-entries : (n : ℕ) → lengthInForm n ≡ true → n ≡ entryStride * (n / entryStride)
 unfolding lengthInForm
 in-entries n h =
     let p = both (leb entryStride n && leb n (entryStride * maxEntries)) (eqb (n % entryStride) 0) h in

@@ -1,0 +1,175 @@
+// Solving: from a game file to the table of the rounds, in two lent areas.
+use crate::adding::insert;
+use crate::area::clear;
+use crate::area::copy;
+use crate::round::take_round;
+use game::Answer;
+use game::Game;
+use game::Sizes;
+use table::EntryWords;
+use table::is_length;
+ghost use mathlib.Core.Path.{_≡_};
+ghost use mathlib.Core.List.{[], map};
+ghost use Prim.Native.Nat.{ℕ, _+_, _*_, _<_, _≤_};
+ghost use lib.ListN.{length, replicate};
+ghost use Rattle.game.specs.Game.{PushdownGame};
+ghost use Rattle.game.specs.GoodGame.{Good};
+ghost use Rattle.game.specs.Held.{Held, Safe};
+ghost use Rattle.game.specs.Outcome.{Outcome, refused};
+ghost use Rattle.game.specs.Stored.{stored};
+ghost use Rattle.solver.specs.Rounds.{roundZero, targetEntry};
+ghost use Rattle.solver.specs.Solving.{solvingGame};
+ghost use Rattle.solver.specs.Growing.{growing, partly};
+ghost use Rattle.solver.specs.Filled.{Stored, Filled};
+ghost use Rattle.solver.specs.Leaving.{leaving, called, solveCall};
+ghost use Rattle.solver.specs.Given.{Given, solvingRounds, refusedAs};
+
+// Entries and rounds, or the number of the question that was answered no, and its place.
+pub enum Solution {
+    Solved { entries: usize, rounds: u32 },
+    Refused { question: u8, place: usize },
+}
+
+// Solves the game that a file describes. Both areas are cleared first, so the answer does not depend on what they held.
+// Afterwards the table has the entries in order and the work area is zero; after a refusal both are zero.
+pub fn solve(file: &[u8], table: &mut [u32], work: &mut [u32]) -> Solution
+    ensures { λ r. ⌜ called r (now (table .exit)) (now (work .exit))
+        ≡ solveCall (now (file .entry)) (length (now (table .entry))) (length (now (work .entry))) ⌝ }
+{
+    clear(table);
+    clear(work);
+    let reading = Game::read(file);
+    let answer = reading.answer;
+    let Answer::Done = answer else {
+        return refusal(answer);
+    };
+    if table.len() != work.len() {
+        return Solution::Refused {
+            question: 10,
+            place: 0,
+        };
+    }
+    if !is_length(table.len()) {
+        return Solution::Refused {
+            question: 10,
+            place: 0,
+        };
+    }
+    let game = reading.game;
+    solve_game(game, table, work)
+}
+
+// The same for a game that was read, over cleared areas of equal length.
+fn solve_game(game: Game, table: &mut [u32], work: &mut [u32]) -> Solution
+    requires { ⌜ ((g : PushdownGame) × (game ≡ stored g) × Good g) × (length (now table) ≡ length (now work)) ⌝ }
+    ensures { λ r. ⌜ ((g : PushdownGame) (n : ℕ) → game ≡ stored g → Good g → now (table .entry) ≡ replicate (n * 3) 0
+        → called r (now (table .exit)) (now (work .exit)) ≡ leaving (solvingGame g n) (length (now (table .entry))) (length (now (work .entry)))) ⌝ }
+{
+    let sizes = game.sizes();
+    let rules = game.rules;
+    let targets = game.targets;
+    all_rounds(sizes, &rules, &targets, table, work)
+}
+
+// Round 0, then the others.
+fn all_rounds(
+    sizes: Sizes,
+    rules: &[u8],
+    targets: &[u32],
+    table: &mut [u32],
+    work: &mut [u32],
+) -> Solution
+    requires { ⌜ ((g : PushdownGame) × Given g sizes (now rules) (now targets)) × (length (now table) ≡ length (now work)) ⌝ }
+    ensures { λ r. ⌜ ((g : PushdownGame) (n : ℕ) → Given g sizes (now (rules .entry)) (now (targets .entry))
+        → now (table .entry) ≡ replicate (n * 3) 0
+        → called r (now (table .exit)) (now (work .exit)) ≡ leaving (solvingGame g n) (length (now (table .entry))) (length (now (work .entry)))) ⌝ }
+{
+    let first = round_zero(sizes, rules, targets, table);
+    if table.len() / EntryWords::STRIDE < first {
+        return give_up(table, work, 11, 0);
+    }
+    rounds_from(sizes, rules, table, work, first)
+}
+
+// Round 0: the target's transitions, birthdate 0.
+fn round_zero(sizes: Sizes, rules: &[u8], targets: &[u32], table: &mut [u32]) -> usize
+    requires { ⌜ ((g : PushdownGame) × Given g sizes (now rules) (now targets)) ⌝ }
+    ensures { λ r. ⌜ ((g : PushdownGame) (n : ℕ) → Given g sizes (now (rules .entry)) (now (targets .entry))
+        → now (table .entry) ≡ replicate (n * 3) 0
+        → Filled n (now (table .exit)) r (growing n (map targetEntry (g .targets)) (partly []))) ⌝ }
+    ensures { λ _. ⌜ length (now (table .exit)) ≡ length (now (table .entry)) ⌝ }
+{
+    let mut count = 0;
+    let mut t = 0;
+    while t < sizes.targetcount {
+        let at = t * Game::TARGET_STRIDE;
+        let entry = EntryWords {
+            first: targets[at] + 256 * targets[at + 1],
+            set: targets[at + 2],
+            rule: 0,
+        };
+        count = insert(table, count, entry);
+        t += 1;
+    }
+    count
+}
+
+// The rounds after round 0, taken in order until settled. The work area holds the old round.
+fn rounds_from(
+    sizes: Sizes,
+    rules: &[u8],
+    table: &mut [u32],
+    work: &mut [u32],
+    first: usize,
+) -> Solution
+    requires { ⌜ Safe sizes (now rules) × (0 < sizes .letters) × (length (now table) ≡ length (now work)) × (first * 3 ≤ length (now table)) ⌝ }
+    ensures { λ r. ⌜ ((g : PushdownGame) (n : ℕ) → Held g sizes (now (rules .entry)) → Good g → Stored n (now (table .entry)) first (roundZero g)
+        → called r (now (table .exit)) (now (work .exit)) ≡ leaving (solvingRounds g n) (length (now (table .entry))) (length (now (work .entry)))) ⌝ }
+{
+    let mut count = first;
+    let mut i = 0u32;
+    loop {
+        copy(table, work);
+        let next = take_round(sizes, rules, work, table, count, i + 1);
+        if next == count {
+            clear(work);
+            return Solution::Solved {
+                entries: count,
+                rounds: i,
+            };
+        }
+        if Game::MAX_ROUNDS <= i {
+            return give_up(table, work, 12, i as usize + 1);
+        }
+        if table.len() / EntryWords::STRIDE < next {
+            return give_up(table, work, 11, i as usize + 1);
+        }
+        count = next;
+        i += 1;
+    }
+}
+
+// Clears both areas and refuses.
+fn give_up(table: &mut [u32], work: &mut [u32], question: u8, place: usize) -> Solution
+    ensures { λ r. ⌜ called r (now (table .exit)) (now (work .exit))
+        ≡ leaving (refused question place) (length (now (table .entry))) (length (now (work .entry))) ⌝ }
+    ensures { λ _. ⌜ length (now (table .exit)) ≡ length (now (table .entry)) ⌝ }
+    ensures { λ _. ⌜ length (now (work .exit)) ≡ length (now (work .entry)) ⌝ }
+{
+    clear(table);
+    clear(work);
+    Solution::Refused { question, place }
+}
+
+// A refusal by a question of reading.
+fn refusal(answer: Answer) -> Solution
+    ensures { λ r. ⌜ r ≡ refusedAs answer ⌝ }
+{
+    match answer {
+        Answer::Refused { question, place } => Solution::Refused { question, place },
+        Answer::Done => Solution::Solved {
+            entries: 0,
+            rounds: 0,
+        },
+    }
+}
