@@ -2,6 +2,7 @@ pub mod Rounds
 pub mod Solving
 pub mod Leaving
 pub mod Given
+pub mod Demands
 pub mod UnionLaws
 pub mod Enumeration
 pub mod MemberLaws
