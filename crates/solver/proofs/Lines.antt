@@ -1,16 +1,16 @@
--- Lines of the memo after one was written, and areas cleared and copied word by word.
-use Prim.Native.Nat.{ℕ, zero, suc, _+_, _*_, _<_, _≤_}
-use mathlib.Core.Path.{_≡_, refl, sym, ap, _∙_}
+-- Lines of the memo after one was written.
+use Prim.Native.Nat.{ℕ, _+_, _*_, _≤_}
+use mathlib.Core.Path.{_≡_, _∙_}
 use mathlib.Core.Logic.{_⊎_, inl, inr, ⊎-elim}
 use mathlib.Core.Bool.{true, false}
 use mathlib.Core.List.{List}
 use native.Mathlib.Omega.{arith}
-use lib.ListN.{length, getD, set, replicate, length-set, length-replicate, getD-replicate}
-use lib.Seq.{getD-set-same, getD-set-other, ext-getD}
+use lib.ListN.{length, getD, set, length-set}
+use lib.Seq.{getD-set-same, getD-set-other}
 use lib.Dec.{eqb}
 use borrow.Author.Tests.{eqb-true, eqb-false}
-use Rattle.game.specs.ListLaws.{test, below-suc}
-use Rattle.solver.specs.Memo.{Line, lineAt}
+use Rattle.game.specs.ListLaws.{test}
+use Rattle.solver.specs.Memo.{lineAt}
 
 pub line-is : (memo : List ℕ) (k tag left union : ℕ) → getD memo (k * 3) 0 ≡ tag → getD memo (k * 3 + 1) 0 ≡ left → getD memo (k * 3 + 2) 0 ≡ union → lineAt memo k ≡ record { tag = tag; left = left; union = union }
 line-is memo k tag left union p q r = λ i. record { tag = p i; left = q i; union = r i }
@@ -52,29 +52,3 @@ module _ (memo : List ℕ) (line tag left union : ℕ) (h : line * 3 + 3 ≤ len
       (untouched (k * 3 + 1) (λ z. omega arith) (λ z. omega arith) (λ z. omega arith))
       (untouched (k * 3 + 2) (λ z. omega arith) (λ z. omega arith) (λ z. omega arith))))
       (test (eqb k line))
-
--- the first i words are as wanted, and the length stays
-pub record Done (area : List ℕ) (want : List ℕ) (i : ℕ) (now : List ℕ) : Type 0 where
-  pub within : i ≤ length area
-  pub long : length now ≡ length area
-  pub told : (k : ℕ) → k < i → getD now k 0 ≡ getD want k 0
-
-pub start : (area want : List ℕ) → Done area want 0 area
-start area want = record { within = omega arith; long = refl; told = λ k h. absurd (omega arith) }
-
-pub next : (area want now : List ℕ) (i : ℕ) → Done area want i now → i < length area → (v : ℕ) → v ≡ getD want i 0 → Done area want (i + 1) (set now i v)
-next area want now i d h v e =
-    record {
-      within = omega arith;
-      long = rw length-set (d .long);
-      told =
-          λ k l.
-          ⊎-elim
-          (λ (p : k < i). getD-set-other now i k v 0 (λ s. omega arith) ∙ d .told k p)
-          (λ (p : k ≡ i). rw p (getD-set-same now i v 0 (omega (arith, d .long)) ∙ e))
-          (below-suc (omega arith));
-    }
-
-pub finish : (area want now : List ℕ) (i : ℕ) → Done area want i now → length area ≤ i → length want ≡ length area → now ≡ want
-finish area want now i d h l =
-    ext-getD 0 now want (d .long ∙ sym l) (λ k p. d .told k (omega (arith, d .long, d .within)))

@@ -149,14 +149,14 @@ fn rounds_from(
     }
 }
 
-// Clears both areas and refuses.
-fn give_up(table: &mut [u32], work: &mut [u32], question: u8, place: usize) -> Solution
-    ensures { λ r. ⌜ called r (now (table .exit)) (now (work .exit))
-        ≡ leaving (refused question place) (length (now (table .entry))) (length (now (work .entry))) ⌝ }
-    ensures { λ _. ⌜ length (now (table .exit)) ≡ length (now (table .entry)) ⌝ }
+// Clears the table as far as it was begun, and the work area, and refuses.
+fn give_up(begun: &mut [u32], work: &mut [u32], question: u8, place: usize) -> Solution
+    ensures { λ r. ⌜ called r (now (begun .exit)) (now (work .exit))
+        ≡ leaving (refused question place) (length (now (begun .entry))) (length (now (work .entry))) ⌝ }
+    ensures { λ _. ⌜ length (now (begun .exit)) ≡ length (now (begun .entry)) ⌝ }
     ensures { λ _. ⌜ length (now (work .exit)) ≡ length (now (work .entry)) ⌝ }
 {
-    clear(table);
+    clear(begun);
     clear(work);
     Solution::Refused { question, place }
 }

@@ -5,3 +5,4 @@ pub mod OrderLaws
 pub mod Rows
 pub mod RowLaws
 pub mod WordLaws
+pub mod Filling

@@ -3,7 +3,7 @@ use Prim.Native.Nat.{_-_}
 use mathlib.Core.Path.{refl, sym, _∙_}
 use native.Mathlib.Omega.{arith}
 use lib.ListN.{length, replicate, length-replicate, getD-replicate}
-use Rattle.solver.proofs.Lines.{Done, start, next, finish}
+use Rattle.table.specs.Filling.{Done, start, next, finish}
 use Rattle.solver.proofs.area.clear.Statement.{statement}
 use Rattle.solver.proofs.area.clear.Tie as tie
 
@@ -22,20 +22,20 @@ mul-area c = omega (arith, c .before .loop .inv .long, c .before .before .good)
 slice-write-area : tie.Need-slice-write-area Inv-loop μ-loop
 slice-write-area c = omega arith
 
-add-i : tie.Need-add-i Inv-loop μ-loop
-add-i c = omega (arith, c .before .loop .inv .long, c .before .before .good)
+add-at : tie.Need-add-at Inv-loop μ-loop
+add-at c = omega (arith, c .before .loop .inv .long, c .before .before .good)
 
 loop-less : tie.Need-loop-less Inv-loop μ-loop
 loop-less c = omega (arith, c .before .loop .inv .long)
 
 loop-again : tie.Need-loop-again Inv-loop μ-loop
-loop-again c = next _ _ _ (c .before .loop .i) (c .before .loop .inv) (omega (arith, c .before .loop .inv .long)) _ (sym (getD-replicate (length (c .before .before .args .area .now)) (c .before .loop .i) 0 0 (omega (arith, c .before .loop .inv .long))))
+loop-again c = next _ _ _ (c .before .loop .at) (c .before .loop .inv) (omega (arith, c .before .loop .inv .long)) _ (sym (getD-replicate (length (c .before .before .args .area .now)) (c .before .loop .at) 0 0 (omega (arith, c .before .loop .inv .long))))
 
 same-length : tie.Need-same-length Inv-loop μ-loop
 same-length c = c .before .loop .inv .long
 
 returns : tie.Need-returns Inv-loop μ-loop
-returns c = finish _ _ _ (c .before .loop .i) (c .before .loop .inv) (omega (arith, c .before .loop .inv .long)) (length-replicate _ 0)
+returns c = finish _ _ _ (c .before .loop .at) (c .before .loop .inv) (omega (arith, c .before .loop .inv .long)) (length-replicate _ 0)
 
 pub clear-spec : {M : Type 1} → statement M
 clear-spec =
@@ -46,7 +46,7 @@ clear-spec =
     loop-holds
     mul-area
     slice-write-area
-    add-i
+    add-at
     loop-less
     loop-again
     same-length

@@ -4,7 +4,7 @@ use Prim.Native.Nat.{_-_}
 use mathlib.Core.Path.{refl, sym, _∙_}
 use native.Mathlib.Omega.{arith}
 use lib.ListN.{length}
-use Rattle.solver.proofs.Lines.{Done, start, next, finish}
+use Rattle.table.specs.Filling.{Done, start, next, finish}
 use Rattle.solver.proofs.area.copy.Statement.{statement}
 use Rattle.solver.proofs.area.copy.Tie as tie
 
