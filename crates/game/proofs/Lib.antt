@@ -1,4 +1,5 @@
 pub mod Asked
+pub mod Carried
 pub mod Commands
 pub mod Decoded
 pub mod Going

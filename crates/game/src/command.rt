@@ -1,4 +1,4 @@
-// The command reader: what stands at an offset of a game file.
+// Commands, and what stands at an offset of a game file.
 ghost use mathlib.Core.Path.{_≡_};
 ghost use Prim.Native.Nat.{_<_, _+_};
 ghost use lib.ListN.{length, getD};

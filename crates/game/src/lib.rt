@@ -6,6 +6,7 @@ mod command;
 mod game;
 mod position;
 mod question;
+mod reader;
 mod reading;
 
 pub use command::Command;
@@ -20,3 +21,5 @@ pub use position::position_form;
 pub use question::has_state;
 pub use question::is_rule_of;
 pub use question::is_within;
+pub use reader::CommandReader;
+pub use reader::read_command;

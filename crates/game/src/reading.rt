@@ -1,12 +1,12 @@
 // Reading a game file: questions 1 to 9, and the game.
 use crate::command::Command;
 use crate::command::Found;
-use crate::command::command_at;
 use crate::game::Answer;
 use crate::game::Game;
 use crate::game::Reading;
 use crate::question::ask_command;
 use crate::question::is_every_head;
+use crate::reader::read_command;
 ghost use mathlib.Core.Path.{_≡_};
 ghost use Prim.Native.Nat.{_<_, _≤_};
 ghost use lib.ListN.{length};
@@ -30,7 +30,7 @@ impl Game {
         let mut game = Game::empty();
         let mut at = 0;
         while at < file.len() {
-            let found = command_at(file, at);
+            let found = read_command(file, at);
             let Found::Next(command, next) = found else {
                 return refuse(2, at);
             };

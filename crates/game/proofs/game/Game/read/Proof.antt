@@ -38,8 +38,8 @@ empty-requires c κs = search needs
 loop-holds : tie.Need-loop-holds Inv-loop μ-loop
 loop-holds c = start _ _ (c .before .before .if1 .left) (c .before .if2 .left) (c .empty .ensures)
 
-command-at-requires : tie.Need-command-at-requires Inv-loop μ-loop
-command-at-requires c κs = search needs
+read-command-requires : tie.Need-read-command-requires Inv-loop μ-loop
+read-command-requires c κs = search needs
 
 enum-known-found : tie.Need-enum-known-found Inv-loop μ-loop
 enum-known-found c = search needs
@@ -48,7 +48,7 @@ refuse-requires-3 : tie.Need-refuse-requires-3 Inv-loop μ-loop
 refuse-requires-3 c κs = search needs
 
 returns-3 : tie.Need-returns-3 Inv-loop μ-loop
-returns-3 c = rw (stops _ _ _ (c .before .before .before .before .loop .inv) (c .before .before .before .loop-test .taken) _ (c .before .before .command-at .ensures) (c .before .match .keys2)) (c .refuse3 .ensures)
+returns-3 c = rw (stops _ _ _ (c .before .before .before .before .loop .inv) (c .before .before .before .loop-test .taken) _ (c .before .before .read-command .ensures) (c .before .match .keys2)) (c .refuse3 .ensures)
 
 ask-command-requires : tie.Need-ask-command-requires Inv-loop μ-loop
 ask-command-requires c κs = asks _ _ _ (c .before .before .before .before .before .loop .inv) (c .before .before .before .before .loop-test .taken)
@@ -57,7 +57,7 @@ refuse-requires-4 : tie.Need-refuse-requires-4 Inv-loop μ-loop
 refuse-requires-4 c κs = search needs
 
 returns-4 : tie.Need-returns-4 Inv-loop μ-loop
-returns-4 c = rw (refuses _ _ _ (c .before .before .before .before .before .before .before .before .loop .inv) (c .before .before .before .before .before .before .before .loop-test .taken) _ _ (sym (c .before .before .before .before .before .before .command-at .ensures) ∙ c .before .before .before .before .found .given .1) _ (c .before .before .ask-command .ensures _ (c .before .before .before .before .before .before .before .before .loop .inv .held)) (c .before .if3 .taken)) (c .refuse4 .ensures)
+returns-4 c = rw (refuses _ _ _ (c .before .before .before .before .before .before .before .before .loop .inv) (c .before .before .before .before .before .before .before .loop-test .taken) _ _ (sym (c .before .before .before .before .before .before .read-command .ensures) ∙ c .before .before .before .before .found .given .1) _ (c .before .before .ask-command .ensures _ (c .before .before .before .before .before .before .before .before .loop .inv .held)) (c .before .if3 .taken)) (c .refuse4 .ensures)
 
 enum-told : tie.Need-enum-told Inv-loop μ-loop
 enum-told c = search needs
@@ -66,16 +66,16 @@ close-requires : tie.Need-close-requires Inv-loop μ-loop
 close-requires c κs = (c .before .before .before .before .before .before .before .before .loop-test .taken, asks _ _ _ (c .before .before .before .before .before .before .before .before .before .loop .inv) (c .before .before .before .before .before .before .before .before .loop-test .taken) .2)
 
 returns-5 : tie.Need-returns-5 Inv-loop μ-loop
-returns-5 c = rw (closes _ _ _ (c .before .before .before .before .before .before .before .before .before .before .loop .inv) (c .before .before .before .before .before .before .before .before .before .loop-test .taken) _ _ (sym (c .before .before .before .before .before .before .before .before .command-at .ensures) ∙ c .before .before .before .before .before .before .found .given .1) _ (c .before .before .before .before .ask-command .ensures _ (c .before .before .before .before .before .before .before .before .before .before .loop .inv .held)) (c .before .before .before .if3 .left) (c .before .enum-told .given .1)) (c .close .ensures _ (c .before .before .before .before .before .before .before .before .before .before .loop .inv .held))
+returns-5 c = rw (closes _ _ _ (c .before .before .before .before .before .before .before .before .before .before .loop .inv) (c .before .before .before .before .before .before .before .before .before .loop-test .taken) _ _ (sym (c .before .before .before .before .before .before .before .before .read-command .ensures) ∙ c .before .before .before .before .before .before .found .given .1) _ (c .before .before .before .before .ask-command .ensures _ (c .before .before .before .before .before .before .before .before .before .before .loop .inv .held)) (c .before .before .before .if3 .left) (c .before .enum-told .given .1)) (c .close .ensures _ (c .before .before .before .before .before .before .before .before .before .before .loop .inv .held))
 
 with-requires : tie.Need-with-requires Inv-loop μ-loop
-with-requires c κs = fits _ _ _ (c .before .before .before .before .before .before .before .before .loop .inv) (c .before .before .before .before .before .before .before .loop-test .taken) _ _ (sym (c .before .before .before .before .before .before .command-at .ensures) ∙ c .before .before .before .before .found .given .1) _ (c .before .before .ask-command .ensures _ (c .before .before .before .before .before .before .before .before .loop .inv .held)) (c .before .if3 .left)
+with-requires c κs = fits _ _ _ (c .before .before .before .before .before .before .before .before .loop .inv) (c .before .before .before .before .before .before .before .loop-test .taken) _ _ (sym (c .before .before .before .before .before .before .read-command .ensures) ∙ c .before .before .before .before .found .given .1) _ (c .before .before .ask-command .ensures _ (c .before .before .before .before .before .before .before .before .loop .inv .held)) (c .before .if3 .left)
 
 loop-less : tie.Need-loop-less Inv-loop μ-loop
-loop-less c = omega (arith, further _ _ _ (c .before .before .before .before .before .before .before .before .before .loop .inv) (c .before .before .before .before .before .before .before .before .loop-test .taken) _ _ (sym (c .before .before .before .before .before .before .before .command-at .ensures) ∙ c .before .before .before .before .before .found .given .1))
+loop-less c = omega (arith, further _ _ _ (c .before .before .before .before .before .before .before .before .before .loop .inv) (c .before .before .before .before .before .before .before .before .loop-test .taken) _ _ (sym (c .before .before .before .before .before .before .before .read-command .ensures) ∙ c .before .before .before .before .before .found .given .1))
 
 loop-again : tie.Need-loop-again Inv-loop μ-loop
-loop-again c = goes _ _ _ (c .before .before .before .before .before .before .before .before .before .loop .inv) (c .before .before .before .before .before .before .before .before .loop-test .taken) _ _ (sym (c .before .before .before .before .before .before .before .command-at .ensures) ∙ c .before .before .before .before .before .found .given .1) _ (c .before .before .before .ask-command .ensures _ (c .before .before .before .before .before .before .before .before .before .loop .inv .held)) (c .before .before .if3 .left) _ (c .with .ensures _ (c .before .before .before .before .before .before .before .before .before .loop .inv .held)) (c .before .match2 .keys2)
+loop-again c = goes _ _ _ (c .before .before .before .before .before .before .before .before .before .loop .inv) (c .before .before .before .before .before .before .before .before .loop-test .taken) _ _ (sym (c .before .before .before .before .before .before .before .read-command .ensures) ∙ c .before .before .before .before .before .found .given .1) _ (c .before .before .before .ask-command .ensures _ (c .before .before .before .before .before .before .before .before .before .loop .inv .held)) (c .before .before .if3 .left) _ (c .with .ensures _ (c .before .before .before .before .before .before .before .before .before .loop .inv .held)) (c .before .match2 .keys2)
 
 refuse-requires-5 : tie.Need-refuse-requires-5 Inv-loop μ-loop
 refuse-requires-5 c κs = search needs
@@ -95,7 +95,7 @@ read-spec =
     returns-2
     empty-requires
     loop-holds
-    command-at-requires
+    read-command-requires
     enum-known-found
     refuse-requires-3
     returns-3
