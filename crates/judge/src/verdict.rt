@@ -11,6 +11,7 @@ ghost use mathlib.Core.Path.{_≡_};
 ghost use mathlib.Core.List.{List};
 ghost use mathlib.Core.Option.{Option};
 ghost use Prim.Native.Nat.{ℕ, _≤_, _<_, min};
+ghost use Rattle.game.specs.Limits.{maxStates, maxStack};
 ghost use lib.ListN.{length, getD};
 ghost use Rattle.game.specs.Game.{PushdownGame};
 ghost use Rattle.game.specs.Stored.{sizesOf};
@@ -44,7 +45,7 @@ const BOUND_LIMIT: u64 = 1125899906842624;
 // The verdict on control state `state` and a stack, top letter first, that are in form, over a table in form. What lies
 // below the top is handed on as the part of the stack that it is.
 pub fn verdict_on(sizes: Sizes, table: &[u32], state: u8, stack: &[u8]) -> Verdict
-    requires { ⌜ (state < sizes .states) × (sizes .states ≤ 32) × (0 < length (now stack)) × (length (now stack) ≤ 256)
+    requires { ⌜ (state < sizes .states) × (sizes .states ≤ maxStates) × (0 < length (now stack)) × (length (now stack) ≤ maxStack)
         × Young (now table) ⌝ }
     ensures { λ r. ⌜ ((g : PushdownGame) → sizes ≡ sizesOf g
         → judged r ≡ verdictIs g (entriesOf (now (table .entry))) state (now (stack .entry))) ⌝ }
@@ -85,7 +86,7 @@ fn least_rule(
     below: [u64; Game::MAX_STATES as usize],
     bound: u64,
 ) -> u64
-    requires { ⌜ (sizes .states ≤ 32) × Young (now table) × Tame below ⌝ }
+    requires { ⌜ (sizes .states ≤ maxStates) × Young (now table) × Tame below ⌝ }
     ensures { λ r. ⌜ ((rest : List (Option ℕ)) → below ≡ machine rest → length rest ≡ sizes .states → Lows rest
         → bound < 18446744073709551615
         → r ≡ coded (leastOver (headRule (automatonOf sizes (entriesOf (now (table .entry)))) rest p a bound)
@@ -111,7 +112,7 @@ fn lesser_rule(
     below: &[u64; Game::MAX_STATES as usize],
     bound: u64,
 ) -> u64
-    requires { ⌜ (states ≤ 32) × Tame (now below) × BornIn (entry .first) (entry .set) (entry .rule) ⌝ }
+    requires { ⌜ (states ≤ maxStates) × Tame (now below) × BornIn (entry .first) (entry .set) (entry .rule) ⌝ }
     ensures { λ r. ⌜ r ≡ lesserRule least p a states (now (below .entry)) bound (entry .first) (entry .set) (entry .rule) ⌝ }
 {
     if !is_of_head(entry, p, a) {

@@ -8,6 +8,7 @@ ghost use mathlib.Core.Bool.{cond};
 ghost use mathlib.Core.List.{List, []};
 ghost use mathlib.Core.Option.{Option, some, none};
 ghost use Prim.Native.Nat.{ℕ, _+_, _≤_, _<_, max};
+ghost use Rattle.game.specs.Limits.{maxStates, maxStack, maxRounds};
 ghost use lib.ListN.{length, getD};
 ghost use Rattle.game.specs.Sets.{has};
 ghost use Rattle.game.specs.declared.game.Sizes.{Sizes};
@@ -30,7 +31,7 @@ pub const NONE: u64 = 18446744073709551615;
 
 // The worth of every state on a stack's rest, from the worth of all states on the rest one letter shorter.
 pub fn worths(sizes: Sizes, table: &[u32], rest: &[u8]) -> [u64; Game::MAX_STATES as usize]
-    requires { ⌜ (sizes .states ≤ 32) × (length (now rest) ≤ 256) × Young (now table) ⌝ }
+    requires { ⌜ (sizes .states ≤ maxStates) × (length (now rest) ≤ maxStack) × Young (now table) ⌝ }
     ensures { λ r. ⌜ r ≡ machine (worthsOf (automatonOf sizes (entriesOf (now (table .entry)))) (now (rest .entry))) ⌝ }
 {
     if rest.len() == 0 {
@@ -42,7 +43,7 @@ pub fn worths(sizes: Sizes, table: &[u32], rest: &[u8]) -> [u64; Game::MAX_STATE
 
 // On the empty stack: 0 where the state is final.
 fn empty_worths(states: u8, finals: u32) -> [u64; Game::MAX_STATES as usize]
-    requires { ⌜ states ≤ 32 ⌝ }
+    requires { ⌜ states ≤ maxStates ⌝ }
     ensures { λ r. ⌜ ((sizes : Sizes) (table : List Entry) → states ≡ sizes .states → finals ≡ sizes .finals
         → r ≡ machine (worthsOf (automatonOf sizes table) [])) ⌝ }
 {
@@ -72,7 +73,7 @@ pub fn letter_step(
     letter: u8,
     below: [u64; Game::MAX_STATES as usize],
 ) -> [u64; Game::MAX_STATES as usize]
-    requires { ⌜ (sizes .states ≤ 32) × Young (now table) × Tame below ⌝ }
+    requires { ⌜ (sizes .states ≤ maxStates) × Young (now table) × Tame below ⌝ }
     ensures { λ r. ⌜ ((rest : List (Option ℕ)) → below ≡ machine rest → length rest ≡ sizes .states → Lows rest
         → r ≡ machine (step (automatonOf sizes (entriesOf (now (table .entry)))) letter rest)) ⌝ }
 {
@@ -94,7 +95,7 @@ fn take_entry(
     states: u8,
     below: &[u64; Game::MAX_STATES as usize],
 )
-    requires { ⌜ (states ≤ 32) × Tame (now below) × BornIn (entry .first) (entry .set) (entry .rule) ⌝ }
+    requires { ⌜ (states ≤ maxStates) × Tame (now below) × BornIn (entry .first) (entry .set) (entry .rule) ⌝ }
     ensures { λ _. ⌜ now (out .exit) ≡ takenEntry letter states (now (below .entry)) (now (out .entry)) (entry .first) (entry .set) (entry .rule) ⌝ }
 {
     if !is_on_letter(entry, letter, states) {
@@ -123,7 +124,7 @@ fn is_on_letter(entry: EntryWords, letter: u8, states: u8) -> bool
 
 // A transition's weight and the largest worth of its set's members, or none.
 pub fn entry_worth(entry: EntryWords, states: u8, below: &[u64; Game::MAX_STATES as usize]) -> u64
-    requires { ⌜ (states ≤ 32) × Tame (now below) × ((entryOf (entry .first) (entry .set) (entry .rule)) .birthdate ≤ 40) ⌝ }
+    requires { ⌜ (states ≤ maxStates) × Tame (now below) × ((entryOf (entry .first) (entry .set) (entry .rule)) .birthdate ≤ maxRounds) ⌝ }
     ensures { λ r. ⌜ r ≡ machineWorth states (now (below .entry)) (entryOf (entry .first) (entry .set) (entry .rule)) ⌝ }
 {
     let largest = largest_member(below, entry.set, states);
@@ -143,7 +144,7 @@ fn weight(birthdate: u32) -> u64
 
 // The largest worth of a set's members below `states`; over no members it is 0.
 fn largest_member(below: &[u64; Game::MAX_STATES as usize], set: u32, states: u8) -> u64
-    requires { ⌜ states ≤ 32 ⌝ }
+    requires { ⌜ states ≤ maxStates ⌝ }
     ensures { λ r. ⌜ r ≡ largestOf (now (below .entry)) set states ⌝ }
 {
     let mut most = 0;
@@ -157,7 +158,7 @@ fn largest_member(below: &[u64; Game::MAX_STATES as usize], set: u32, states: u8
 
 // The larger of a worth and that of a state, if the state is in the set.
 fn larger(most: u64, below: &[u64; Game::MAX_STATES as usize], set: u32, s: u8) -> u64
-    requires { ⌜ s < 32 ⌝ }
+    requires { ⌜ s < maxStates ⌝ }
     ensures { λ r. ⌜ r ≡ cond (has set s) (max most (getD (now (below .entry)) s 0)) most ⌝ }
 {
     if !has_state(set, s) {

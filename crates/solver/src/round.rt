@@ -13,6 +13,7 @@ use table::EntryWords;
 ghost use mathlib.Core.Path.{_≡_};
 ghost use mathlib.Core.List.{List, map};
 ghost use Prim.Native.Nat.{ℕ, _+_, _*_, _^_, _<_, _≤_};
+ghost use Rattle.game.specs.Limits.{maxRules};
 ghost use lib.ListN.{length};
 ghost use Rattle.game.specs.Game.{PushdownGame};
 ghost use Rattle.game.specs.GoodGame.{Good};
@@ -92,7 +93,7 @@ fn add_runs(
 
 // The job of rule r of a head: Abelard's takes one run for each of his rules, Éloise's the rule by itself.
 fn job_of(sizes: Sizes, p: u8, a: u8, birthdate: u32, r: usize, old: usize) -> Job
-    requires { ⌜ (birthdate < 65536) × (r < 256) ⌝ }
+    requires { ⌜ (birthdate < 65536) × (r < maxRules) ⌝ }
     ensures { λ x. ⌜ x ≡ jobOf sizes p a birthdate r old ⌝ }
 {
     let first = (p as u32) + 256 * (a as u32) + 65536 * birthdate;

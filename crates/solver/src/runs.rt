@@ -9,6 +9,7 @@ use table::EntryWords;
 ghost use mathlib.Core.Path.{_≡_};
 ghost use mathlib.Core.List.{List, map};
 ghost use Prim.Native.Nat.{ℕ, _+_, _*_, _^_, _<_, _≤_};
+ghost use Rattle.game.specs.Limits.{maxStates, maxRules};
 ghost use lib.ListN.{length};
 ghost use Rattle.game.specs.Game.{PushdownGame};
 ghost use Rattle.game.specs.Sets.{single, union as unite};
@@ -43,7 +44,7 @@ pub struct Job {
 
 // The first place from `from` on of a rule of the head, or `end`.
 pub fn next_rule(rules: &[u8], end: usize, from: usize, state: u8, letter: u8) -> usize
-    requires { ⌜ (end * 6 ≤ length (now rules)) × (from ≤ end) × (end ≤ 256) ⌝ }
+    requires { ⌜ (end * 6 ≤ length (now rules)) × (from ≤ end) × (end ≤ maxRules) ⌝ }
     ensures { λ r. ⌜ NextRule (now (rules .entry)) end from state letter r ⌝ }
 {
     let mut r = from;
@@ -60,7 +61,7 @@ pub fn next_rule(rules: &[u8], end: usize, from: usize, state: u8, letter: u8) -
 pub fn highest(set: u32) -> u8
     ensures { λ r. ⌜ Highest set r ⌝ }
 {
-    let mut s = 31;
+    let mut s = Game::MAX_STATES - 1;
     while 0 < s {
         if (set >> s) % 2 == 1 {
             return s;
@@ -72,9 +73,9 @@ pub fn highest(set: u32) -> u8
 
 // A set with a state more; the set itself, where there is no such state.
 pub fn joined(set: u32, s: u8) -> u32
-    ensures { λ r. ⌜ (s < 32 → r ≡ unite set (single s)) ⌝ }
+    ensures { λ r. ⌜ (s < maxStates → r ≡ unite set (single s)) ⌝ }
 {
-    if 31 < s {
+    if Game::MAX_STATES <= s {
         return set;
     }
     set | (1u32 << s)
@@ -82,10 +83,12 @@ pub fn joined(set: u32, s: u8) -> u32
 
 // A number of its own for each head and rule, never 0.
 pub fn tag_of(state: u8, letter: u8, r: usize) -> u32
-    requires { ⌜ r < 256 ⌝ }
+    requires { ⌜ r < maxRules ⌝ }
     ensures { λ x. ⌜ x ≡ tagOf state letter r ⌝ }
 {
-    ((state as u32) * 64 + (letter as u32)) * 256 + (r as u32) + 1
+    ((state as u32) * (Game::MAX_LETTERS as u32) + (letter as u32)) * (Game::MAX_RULES as u32)
+        + (r as u32)
+        + 1
 }
 
 // One run for each rule of the job from place `from` on, united with what was passed.

@@ -9,6 +9,7 @@ use game::is_within;
 ghost use mathlib.Core.Path.{_≡_};
 ghost use mathlib.Core.Bool.{not, _&&_};
 ghost use Prim.Native.Nat.{ℕ, _-_, _*_, _≤_};
+ghost use Rattle.game.specs.Limits.{maxStates, maxRules};
 ghost use lib.ListN.{length};
 ghost use Rattle.game.specs.Game.{PushdownGame};
 ghost use Rattle.game.specs.Held.{Held, Safe};
@@ -124,7 +125,7 @@ fn is_entry_in_form(sizes: Sizes, rules: &[u8], entry: EntryWords) -> bool
 
 // Birthdate 0 and no control state in the set, or a control state's birthdate within the rounds.
 fn is_birthdate_in_form(control: u8, state: u8, set: u32, birthdate: u32) -> bool
-    requires { ⌜ control ≤ 32 ⌝ }
+    requires { ⌜ control ≤ maxStates ⌝ }
     ensures { λ r. ⌜ r ≡ birthdateInForm control state set birthdate ⌝ }
 {
     if birthdate == 0 {
@@ -166,7 +167,7 @@ fn is_rule_in_form(
 
 // The rule of a number is one of the head (p, a).
 pub fn is_rule_numbered(rulecount: usize, rules: &[u8], p: u8, a: u8, number: u32) -> bool
-    requires { ⌜ (rulecount * 6 ≤ length (now rules)) × (rulecount ≤ 256) ⌝ }
+    requires { ⌜ (rulecount * 6 ≤ length (now rules)) × (rulecount ≤ maxRules) ⌝ }
     ensures { λ r. ⌜ ((g : PushdownGame) (sizes : Sizes) → sizes .rulecount ≡ rulecount → Held g sizes (now (rules .entry))
         → r ≡ isRuleOf g p a number) ⌝ }
 {

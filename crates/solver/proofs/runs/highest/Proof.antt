@@ -10,6 +10,9 @@ Inv-loop set s₀ s = Falling set s
 abbrev μ-loop : tie.MeasureT-loop
 μ-loop set s₀ s = s
 
+sub-s : tie.Need-sub-s Inv-loop μ-loop
+sub-s c = omega arith
+
 loop-holds : tie.Need-loop-holds Inv-loop μ-loop
 loop-holds c = top _
 
@@ -22,8 +25,8 @@ shr-if1 c = omega (arith, c .before .loop .inv .small)
 returns : tie.Need-returns Inv-loop μ-loop
 returns c = stops _ (c .before .before .loop .s) (c .before .before .loop .inv) (c .if1 .taken)
 
-sub-s : tie.Need-sub-s Inv-loop μ-loop
-sub-s c = omega arith
+sub-s-2 : tie.Need-sub-s-2 Inv-loop μ-loop
+sub-s-2 c = omega arith
 
 loop-less : tie.Need-loop-less Inv-loop μ-loop
 loop-less c = omega arith
@@ -40,11 +43,12 @@ highest-spec =
     (tie.spec
     Inv-loop
     μ-loop
+    sub-s
     loop-holds
     cast-if1
     shr-if1
     returns
-    sub-s
+    sub-s-2
     loop-less
     loop-again
     returns-2)

@@ -4,17 +4,23 @@ use borrow.Author.Needs.{needs}
 use Rattle.solver.proofs.runs.tag_of.Statement.{statement}
 use Rattle.solver.proofs.runs.tag_of.Tie as tie
 
+cast-result : tie.Need-cast-result
+cast-result c = search needs
+
 mul-result : tie.Need-mul-result
 mul-result c = search needs
 
 add-result : tie.Need-add-result
 add-result c = search needs
 
+cast-result-2 : tie.Need-cast-result-2
+cast-result-2 c = search needs
+
 mul-result-2 : tie.Need-mul-result-2
 mul-result-2 c = search needs
 
-cast-result : tie.Need-cast-result
-cast-result c = search needs
+cast-result-3 : tie.Need-cast-result-3
+cast-result-3 c = search needs
 
 add-result-2 : tie.Need-add-result-2
 add-result-2 c = search needs
@@ -29,4 +35,13 @@ returns c = refl
 pub tag-of-spec : {M : Type 1} → statement M
 tag-of-spec =
     tie.close
-    (tie.spec mul-result add-result mul-result-2 cast-result add-result-2 add-result-3 returns)
+    (tie.spec
+    cast-result
+    mul-result
+    add-result
+    cast-result-2
+    mul-result-2
+    cast-result-3
+    add-result-2
+    add-result-3
+    returns)
