@@ -1,8 +1,8 @@
 -- The turns of an enumeration, over what it enters with and leaves: a part that the memo names, a part that is finished and
 -- noted, and entries taken one after another.
-use Prim.Native.Nat.{ℕ, _+_, _*_, _^_, _<_, _≤_}
+use Prim.Native.Nat.{ℕ, _+_, _^_, _<_}
 use native.Mathlib.Omega.{arith}
-use mathlib.Core.Path.{_≡_, refl, sym, ap, _∙_}
+use mathlib.Core.Path.{_≡_, ap, _∙_}
 use mathlib.Core.Logic.{_⊎_}
 use mathlib.Core.List.{List, [], _∷_, map, flatMap}
 use lib.ListN.{length, getD, drop}
@@ -12,12 +12,12 @@ use Rattle.solver.specs.Rounds.{entryAt}
 use Rattle.solver.specs.Enumeration.{restRuns}
 use Rattle.solver.specs.Growing.{Growing, grow, growing}
 use Rattle.solver.specs.GrowingLaws.{grown-held}
-use Rattle.solver.specs.Filled.{Small, Stored, Filled}
-use Rattle.table.specs.WordLaws.{word-entry, words-length}
+use Rattle.solver.specs.Filled.{Small, Filled}
+use Rattle.table.specs.WordLaws.{word-entry}
 use Rattle.solver.specs.InsertLaws.{noEntry}
-use Rattle.solver.specs.Memo.{Line, lineAt}
-use Rattle.solver.specs.Jobs.{Stands, Entered, Finished, Whole, subRuns, subEntries, endOf, fieldOf, tagOf}
-use Rattle.solver.specs.JobLaws.{grown-from, grown-end}
+use Rattle.solver.specs.Memo.{lineAt}
+use Rattle.solver.specs.Jobs.{Stands, Entered, Finished, Whole, subRuns, subEntries, tagOf}
+use Rattle.solver.specs.JobLaws.{grown-from}
 use Rattle.solver.specs.MemoLaws.{memo-hit, memo-kept, memo-stored}
 use Rattle.solver.specs.declared.runs.Job.{Job}
 
@@ -69,10 +69,6 @@ module _ (g : PushdownGame) (old : List Entry) (birthdate n : ℕ) (job : Job) (
     pub entered : Entered g old birthdate n job rules work words count memo now
     pub rest : growing n (map given (flatMap f old)) s ≡ growing n (map given (flatMap f (drop i old))) now
 
-  pub scan-starts : (f : Entry → List ℕ) (s : Growing) (words : List ℕ) (count : ℕ) (memo : List ℕ)
-      → Entered g old birthdate n job rules work words count memo s → Scanning f s 0 words count memo
-  scan-starts f s words count memo h = record { now = s; entered = h; rest = refl }
-
   module _ (f : Entry → List ℕ) (s : Growing) (i : ℕ) (words : List ℕ) (count : ℕ) (memo : List ℕ) (c : Scanning f s i words count memo) where
     pub scan-next : i < job .count → (words′ : List ℕ) (count′ : ℕ) (memo′ : List ℕ)
         → Finished g old birthdate n (map given (f (getD old i noEntry))) (c .now) words′ count′ memo′ → Scanning f s (i + 1) words′ count′ memo′
@@ -83,11 +79,6 @@ module _ (g : PushdownGame) (old : List Entry) (birthdate n : ℕ) (job : Job) (
           entered = goes-on words count memo (c .now) es words′ count′ memo′ (c .entered) d;
           rest = c .rest ∙ grown-from n given f noEntry i old (c .now) (omega (arith, c .entered .stands .stored .counted));
         }
-
-    pub scan-ends : job .count ≤ i → Finished g old birthdate n (map given (flatMap f old)) s words count memo
-    scan-ends l =
-        let e = c .rest ∙ grown-end n given f i old (c .now) (omega (arith, c .entered .stands .stored .counted)) in
-        record { filled = rw e (c .entered .filled); memoed = rw e (c .entered .memoed) }
 
   -- No rule is left: the union's entry is added.
   module _ (u : ℕ) (some : 0 < u) (small : u < 2 ^ 32) (stands : Stands g old birthdate n job rules work) where

@@ -10,3 +10,4 @@ pub mod Targets
 pub mod Rounding
 pub mod RoundTurns
 pub mod Answers
+pub mod HeadPlaces

@@ -15,8 +15,8 @@ use Rattle.game.specs.ListLaws.{_∈_, test, clash}
 use Rattle.game.specs.Game.{Rule, PushdownGame, ofHead}
 use Rattle.game.specs.Stored.{ruleAt}
 use Rattle.game.specs.StoredLaws.{noRule}
-use Rattle.table.specs.Table.{Entry, entryOf}
-use Rattle.table.specs.Rows.{wordsAt}
+use Rattle.table.specs.Table.{Entry, entryOf, key}
+use Rattle.table.specs.Rows.{Placed, wordsAt}
 use Rattle.table.specs.declared.entry.EntryWords.{EntryWords}
 use Rattle.judge.specs.Worth.{entryOfHead}
 use Rattle.solver.specs.Rounds.{entryAt}
@@ -30,7 +30,8 @@ use Rattle.solver.specs.JobLaws.{none-left, highest-first, passOf, pass-
 use Rattle.solver.specs.NextLaws.{next-is, none-next, beginOf, begin-at, pops, writes}
 use Rattle.solver.specs.declared.runs.Job.{Job}
 use Rattle.solver.proofs.Heads.{shifted-one}
-use Rattle.solver.proofs.Enumerating.{unchanged, named, noted, entry-small, added}
+use Rattle.solver.proofs.HeadPlaces.{before-head, after-head, skip-front, skip-end}
+use Rattle.solver.proofs.Enumerating.{given, Scanning, unchanged, named, noted, entry-small, added}
 use Rattle.solver.proofs.Inserting.{long}
 use Rattle.solver.proofs.Parts.{smaller, union-some, whole, entry-at, rule-at}
 
@@ -308,3 +309,48 @@ module _ (g : PushdownGame) (old : List Entry) (birthdate n : ℕ) (job : Job) (
       → Leaves (passRuns g old (job .state) (job .letter) (job .end) r i q rest u) words′ count′ memo′
       → Leaves (passOf g old (job .state) (job .letter) (job .end) r q rest u (entry i)) words′ count′ memo′
   passed r i q rest u f = same-list (sym (pass-at g old (job .state) (job .letter) (job .end) r i q rest u)) f
+
+-- The entries of a head are taken from the place of its first one to the place after its last one, where the others give nothing.
+module _ (g : PushdownGame) (old : List Entry) (birthdate n : ℕ) (job : Job) (rules work : List ℕ) (f : Entry → List ℕ) (q a : ℕ) (none : (e : Entry) → entryOfHead q a e ≡ false → f e ≡ []) where
+  pub scan-from : (words : List ℕ) (count : ℕ) (memo : List ℕ) (s : Growing) → Entered g old birthdate n job rules work words count memo s
+      → (start : ℕ) → Placed work (job .count) (key q a 0) start → Scanning g old birthdate n job rules work f s start words count memo
+  scan-from words count memo s h start pl =
+      let st = h .stands .stored in
+      record {
+        now = s;
+        entered = h;
+        rest =
+            ap (λ (l : List ℕ). growing n (map (given g old birthdate n job rules work) l) s)
+            (skip-front f noEntry start old (omega (arith, pl .within, st .counted))
+            (λ i l. none (getD old i noEntry) (before-head n work (job .count) old st q a start pl i l)));
+      }
+
+  pub scan-to : (s : Growing) (i : ℕ) (words : List ℕ) (count : ℕ) (memo : List ℕ) → Scanning g old birthdate n job rules work f s i words count memo
+      → (end : ℕ) → Placed work (job .count) (key q a 4294967296) end → end ≤ i
+      → Finished g old birthdate n (map (given g old birthdate n job rules work) (flatMap f old)) s words count memo
+  unfolding growing
+  scan-to s i words count memo c end pl l =
+      let st = c .entered .stands .stored in
+      let e =
+      c .rest
+      ∙ ap (λ (l : List ℕ). growing n (map (given g old birthdate n job rules work) l) (c .now))
+      (skip-end f noEntry i old
+      (λ k m inside. none (getD old k noEntry) (after-head n work (job .count) old st q a end pl k (omega arith) inside)))
+      in
+      record { filled = rw e (c .entered .filled); memoed = rw e (c .entered .memoed) }
+
+-- an entry that is no transition of the head gives nothing
+pub begins-nothing : (g : PushdownGame) (old : List Entry) (p a end r u : ℕ) (q b : ℕ) → q ≡ getD (g .rules) r noRule .to → b ≡ getD (g .rules) r noRule .above
+    → (e : Entry) → entryOfHead q b e ≡ false → beginOf g old p a end r u e ≡ []
+begins-nothing g old p a end r u q b to above e t =
+    ap
+    (λ (of : Bool).
+    cond of
+    (cond (eqb (getD (g .rules) r noRule .count) 1) (subRuns g old p a end r 0 (union u (e .set))) (subRuns g old p a end r (e .set) u))
+    [])
+    (rw (to, above) at t)
+
+pub passes-nothing : (g : PushdownGame) (old : List Entry) (p a end r q rest u : ℕ) (b : ℕ) → b ≡ getD (g .rules) r noRule .below
+    → (e : Entry) → entryOfHead q b e ≡ false → passOf g old p a end r q rest u e ≡ []
+passes-nothing g old p a end r q rest u b below e t =
+    ap (λ (of : Bool). cond of (subRuns g old p a end r rest (union u (e .set))) []) (rw below at t)

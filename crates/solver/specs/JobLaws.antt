@@ -1,9 +1,9 @@
 -- Laws of what the code enumerates: entries taken one after another, the states left of a set, and the numbers of the memo.
-use Prim.Native.Nat.{ℕ, zero, suc, _+_, _*_, _%_, _^_, _<_, _≤_}
+use Prim.Native.Nat.{ℕ, zero, suc, _+_, _%_, _^_, _<_, _≤_}
 use native.Mathlib.Omega.{arith}
-use mathlib.Core.Path.{_≡_, refl, sym, ap, _∙_}
+use mathlib.Core.Path.{_≡_, refl, ap, _∙_}
 use mathlib.Core.Logic.{⊎-elim}
-use mathlib.Core.Bool.{Bool, true, false, cond}
+use mathlib.Core.Bool.{true, false, cond}
 use mathlib.Core.List.{List, [], _∷_, _++_, map, flatMap}
 use lib.ListN.{length, getD, drop}
 use Rattle.game.specs.Sets.{has, union}
@@ -59,11 +59,6 @@ grown-from n entry f d i xs s l =
     (ap (λ (es : List ℕ). growing n (map entry es) s) (from-place f d i xs l)
     ∙ ap (λ (es : List Entry). growing n es s) (map-both entry (f (getD xs i d)) (flatMap f (drop (suc i) xs)))
     ∙ growing-append n (map entry (f (getD xs i d))) (map entry (flatMap f (drop (suc i) xs))) s)
-
-pub grown-end : {A : Type 0} (n : ℕ) (entry : ℕ → Entry) (f : A → List ℕ) (i : ℕ) (xs : List A) (s : Growing) → length xs ≤ i
-    → growing n (map entry (flatMap f (drop i xs))) s ≡ s
-unfolding growing
-grown-end n entry f i xs s l = ap (λ (es : List ℕ). growing n (map entry es) s) (from-end f i xs l)
 
 -- where no state is left: the later rules
 pub none-left : (g : PushdownGame) (old : List Entry) (p a end r u : ℕ)

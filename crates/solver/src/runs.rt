@@ -6,6 +6,7 @@ use crate::memo::is_finished;
 use game::Game;
 use game::is_rule_of;
 use table::EntryWords;
+use table::place_of;
 ghost use mathlib.Core.Path.{_≡_};
 ghost use mathlib.Core.List.{List, map};
 ghost use Prim.Native.Nat.{ℕ, _+_, _*_, _^_, _<_, _≤_};
@@ -13,7 +14,8 @@ ghost use Rattle.game.specs.Limits.{maxStates, maxRules};
 ghost use lib.ListN.{length};
 ghost use Rattle.game.specs.Game.{PushdownGame};
 ghost use Rattle.game.specs.Sets.{single, union as unite};
-ghost use Rattle.table.specs.Table.{Entry};
+ghost use Rattle.table.specs.Table.{Entry, key};
+ghost use Rattle.table.specs.Rows.{Placed};
 ghost use Rattle.solver.specs.Rounds.{entryAt};
 ghost use Rattle.solver.specs.Enumeration.{restRuns};
 ghost use Rattle.solver.specs.Growing.{Growing};
@@ -81,6 +83,28 @@ pub fn joined(set: u32, s: u8) -> u32
     set | (1u32 << s)
 }
 
+// The place of a head's first entry, and the place after its last: in the order of keys its entries stand together.
+pub fn start_of(work: &[u32], count: usize, q: u8, a: u8) -> usize
+    requires { ⌜ count * 3 ≤ length (now work) ⌝ }
+    ensures { λ r. ⌜ Placed (now (work .entry)) count (key q a 0) r ⌝ }
+{
+    place_of(work, count, head_key(q, a))
+}
+
+pub fn end_of(work: &[u32], count: usize, q: u8, a: u8) -> usize
+    requires { ⌜ count * 3 ≤ length (now work) ⌝ }
+    ensures { λ r. ⌜ Placed (now (work .entry)) count (key q a 4294967296) r ⌝ }
+{
+    place_of(work, count, head_key(q, a) + 4294967296)
+}
+
+// The key of a head with the empty set.
+fn head_key(q: u8, a: u8) -> u64
+    ensures { λ r. ⌜ r ≡ key q a 0 ⌝ }
+{
+    ((q as u64) * 256 + (a as u64)) * 4294967296
+}
+
 // A number of its own for each head and rule, never 0.
 pub fn tag_of(state: u8, letter: u8, r: usize) -> u32
     requires { ⌜ r < maxRules ⌝ }
@@ -126,9 +150,10 @@ pub fn rules_from(
         let passed = joined(union, rules[at + 2]);
         return left_over(job, rules, work, table, memo, count, r, 0, passed);
     }
+    let end = end_of(work, job.count, rules[at + 2], rules[at + 4]);
     let mut filled = count;
-    let mut i = 0;
-    while i < job.count {
+    let mut i = start_of(work, job.count, rules[at + 2], rules[at + 4]);
+    while i < end {
         filled = runs_with(job, rules, work, table, memo, filled, r, i, union);
         i += 1;
     }
@@ -239,9 +264,11 @@ fn spread(
     }
     let q = highest(left);
     let rest = left % (1u32 << q);
+    let below = rules[r * Game::RULE_STRIDE + 5];
+    let end = end_of(work, job.count, q, below);
     let mut filled = count;
-    let mut i = 0;
-    while i < job.count {
+    let mut i = start_of(work, job.count, q, below);
+    while i < end {
         filled = passes_with(job, rules, work, table, memo, filled, r, i, q, rest, union);
         i += 1;
     }

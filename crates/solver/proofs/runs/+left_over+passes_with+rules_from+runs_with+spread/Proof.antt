@@ -1,7 +1,7 @@
 -- Each function is entered with a table and a memo that stand for a growing table, and leaves them grown by the entries of its
 -- list. The lists are parts of one another (`subRuns`, `beginRuns`, `passRuns`, `restRuns`), so what a callee leaves is what is left
--- of the caller's list. The two loops take the entries of the old round one after another (`Scanning`). What falls from call to
--- call is the number of rules left, then the set of states left, which loses its highest state.
+-- of the caller's list. The two loops take the entries of a head of the old round one after another (`Scanning`); the others give
+-- nothing. What falls from call to call is the number of rules left, then the set of states left, which loses its highest state.
 -- Assumes what the contracts require.
 use Prim.Native.Nat.{ℕ, _+_, _*_, _-_, _^_, _<_}
 use native.Mathlib.Omega.{arith}
@@ -15,9 +15,9 @@ use Rattle.solver.specs.Growing.{Growing}
 use Rattle.solver.specs.Jobs.{Late, Whole, Entered}
 use Rattle.solver.specs.JobLaws.{passOf}
 use Rattle.solver.specs.NextLaws.{beginOf}
-use Rattle.solver.proofs.Enumerating.{Scanning, scan-starts, scan-next, scan-ends}
+use Rattle.solver.proofs.Enumerating.{Scanning, scan-next}
 use Rattle.solver.proofs.Heads.{shifted-one}
-use Rattle.solver.proofs.Turns.{hit, notes, passes-none, passes-on, begins-none, begins-one, begins-two, no-rule, job-of, pops-first, writes-first, other-state, other-letter, same-head, to-is, count-is, above-is, below-is, none-of-it, highest-passed, rest-is, rest-less, set-of, set-below, set-adds, union-adds, long-of, joins, joins-some, begun, passed}
+use Rattle.solver.proofs.Turns.{hit, notes, passes-none, passes-on, begins-none, begins-one, begins-two, no-rule, job-of, pops-first, writes-first, other-state, other-letter, same-head, to-is, count-is, above-is, below-is, none-of-it, highest-passed, rest-is, rest-less, set-of, set-below, set-adds, union-adds, long-of, joins, joins-some, begun, passed, scan-from, scan-to, begins-nothing, passes-nothing}
 use Rattle.solver.proofs.Parts.{later}
 use lib.Pow.{pow-pos}
 use borrow.Fn.Kinds.{In}
@@ -40,9 +40,11 @@ use Rattle.solver.proofs.runs.+left_over+passes_with+rules_from+runs_wi
 use Rattle.solver.proofs.adding.insert.Reads as insert-reads
 use Rattle.solver.proofs.memo.finish.Reads as finish-reads
 use Rattle.solver.proofs.memo.is_finished.Reads as is-finished-reads
+use Rattle.solver.proofs.runs.end_of.Reads as end-of-reads
 use Rattle.solver.proofs.runs.highest.Reads as highest-reads
 use Rattle.solver.proofs.runs.joined.Reads as joined-reads
 use Rattle.solver.proofs.runs.next_rule.Reads as next-rule-reads
+use Rattle.solver.proofs.runs.start_of.Reads as start-of-reads
 use Rattle.solver.proofs.runs.tag_of.Reads as tag-of-reads
 use Rattle.table.proofs.entry.EntryWords.at.Reads as at-reads
 use Rattle.table.proofs.entry.EntryWords.letter.Reads as letter-reads
@@ -139,6 +141,10 @@ rules-from-claims t = (
   joined-reads.Learnt,
   left-over-below t,
   left-over.Post,
+  end-of-reads.Asked,
+  end-of-reads.Learnt,
+  start-of-reads.Asked,
+  start-of-reads.Learnt,
   runs-with-below t,
   runs-with.Post,
 )
@@ -161,6 +167,10 @@ spread-claims t = (
   rules-from.Post,
   highest-reads.Asked,
   highest-reads.Learnt,
+  end-of-reads.Asked,
+  end-of-reads.Learnt,
+  start-of-reads.Asked,
+  start-of-reads.Learnt,
   passes-with-below t,
   passes-with.Post,
 )
@@ -229,10 +239,10 @@ passes-with-returns-3 : (t : ℕ) → passes-with-lts.Need-returns-3 (passes-wit
 passes-with-returns-3 t c = (λ g old b n s h whole small. passes-on g old b n _ _ _ _ _ _ s h _ _ _ _ _ _ (set-of g old b n _ _ _ _ _ _ s h _ (c .before .before .before .before .before .before .before .before .before .before .before .before .before .before .before .before .before .before .pre .1 .2) _ (c .before .before .before .before .before .before .before .before .before .before .before .before .before .at .ensures)) (same-head g old b n _ _ _ _ _ _ s h _ (c .before .before .before .before .before .before .before .before .before .before .before .before .before .before .before .before .before .before .pre .1 .2) _ (c .before .before .before .before .before .before .before .before .before .before .before .before .before .at .ensures) _ _ (sym (c .before .before .before .before .before .before .before .before .before .before .before .before .state .ensures) ∙ c .before .before .before .before .before .before .before .before .before .before .before .if1 .left) (sym (c .before .before .before .before .before .before .before .before .before .before .letter .ensures) ∙ c .before .before .before .before .before .before .before .before .if2 .left ∙ below-is g old b n _ _ _ _ _ _ s h _ (c .before .before .before .before .before .before .before .before .before .before .before .before .before .before .before .before .before .before .pre .1 .1))) (c .before .before .before .before .left-over .ensures .0 g old b n s h whole small (union-adds g old b n _ _ _ _ _ _ s h _ (c .before .before .before .before .before .before .before .before .before .before .before .before .before .before .before .before .before .before .pre .1 .2) _ (c .before .before .before .before .before .before .before .before .before .before .before .before .before .at .ensures) (c .before .before .before .before .before .before .before .before .before .before .before .before .before .before .before .before .before .before .args .rest) (c .before .before .before .before .before .before .before .before .before .before .before .before .before .before .before .before .before .before .args .union))), c .before .before .before .before .left-over .ensures .1)
 
 abbrev rules-from-Inv-loop : rules-from-lts.InvT-loop
-rules-from-Inv-loop job rules work table₀ memo₀ count from union r at filled₀ i₀ table memo filled i = (length table ≡ length table₀) × (length memo ≡ length memo₀) × ((g : PushdownGame) (old : List Entry) (birthdate n : ℕ) (s : Growing) → Entered g old birthdate n job rules work table₀ count memo₀ s → Late g job from → Scanning g old birthdate n job rules work (beginOf g old (job .state) (job .letter) (job .end) r union) s i table filled memo)
+rules-from-Inv-loop job rules work table₀ memo₀ count from union r at end filled₀ i₀ table memo filled i = (length table ≡ length table₀) × (length memo ≡ length memo₀) × ((g : PushdownGame) (old : List Entry) (birthdate n : ℕ) (s : Growing) → Entered g old birthdate n job rules work table₀ count memo₀ s → Late g job from → Scanning g old birthdate n job rules work (beginOf g old (job .state) (job .letter) (job .end) r union) s i table filled memo)
 
 abbrev rules-from-μ-loop : rules-from-lts.MeasureT-loop
-rules-from-μ-loop job rules work table₀ memo₀ count from union r at filled₀ i₀ table memo filled i = job .count - i
+rules-from-μ-loop job rules work table₀ memo₀ count from union r at end filled₀ i₀ table memo filled i = end - i
 
 rules-from-next-rule-requires : (t : ℕ) → rules-from-lts.Need-next-rule-requires (rules-from-claims t) (rules-from-at t) rules-from.Post rules-from-Inv-loop rules-from-μ-loop
 rules-from-next-rule-requires t c κs = search needs
@@ -276,11 +286,57 @@ rules-from-same-length-3 t c = search needs
 rules-from-returns-2 : (t : ℕ) → rules-from-lts.Need-returns-2 (rules-from-claims t) (rules-from-at t) rules-from.Post rules-from-Inv-loop rules-from-μ-loop
 rules-from-returns-2 t c = (λ g old b n s h late some. let next = c .before .before .before .before .before .before .before .before .before .before .before .before .before .next-rule .ensures in let l = c .before .before .before .before .before .before .before .before .before .before .before .if1 .left in pops-first g old b n _ _ _ _ _ _ s h _ _ _ next l (sym (count-is g old b n _ _ _ _ _ _ s h _ l) ∙ c .before .before .before .before .before .before .before .before .before .if2 .taken) _ (joins g old b n _ _ _ _ _ _ s h _ (c .before .before .before .before .before .before .before .before .before .before .before .before .before .before .before .before .before .before .args .union) _ next l _ (c .before .before .before .before .before .before .before .joined .ensures)) (c .before .before .before .before .left-over .ensures .0 g old b n s h (job-of g old b n _ _ _ _ _ _ s h _ (c .before .before .before .before .before .before .before .before .before .before .before .before .before .before .before .before .before .before .args .union) _ next l late) (pow-pos (g .states)) (joins-some g old b n _ _ _ _ _ _ s h _ (c .before .before .before .before .before .before .before .before .before .before .before .before .before .before .before .before .before .before .args .union) _ next l _ (c .before .before .before .before .before .before .before .joined .ensures))), c .before .before .before .before .left-over .ensures .1)
 
+rules-from-add-end-of : (t : ℕ) → rules-from-lts.Need-add-end-of (rules-from-claims t) (rules-from-at t) rules-from.Post rules-from-Inv-loop rules-from-μ-loop
+rules-from-add-end-of t c = omega arith
+
+rules-from-shared-slice-read-end-of : (t : ℕ) → rules-from-lts.Need-shared-slice-read-end-of (rules-from-claims t) (rules-from-at t) rules-from.Post rules-from-Inv-loop rules-from-μ-loop
+rules-from-shared-slice-read-end-of t c = omega arith
+
+rules-from-add-end-of-2 : (t : ℕ) → rules-from-lts.Need-add-end-of-2 (rules-from-claims t) (rules-from-at t) rules-from.Post rules-from-Inv-loop rules-from-μ-loop
+rules-from-add-end-of-2 t c = omega arith
+
+rules-from-shared-slice-read-end-of-2 : (t : ℕ) → rules-from-lts.Need-shared-slice-read-end-of-2 (rules-from-claims t) (rules-from-at t) rules-from.Post rules-from-Inv-loop rules-from-μ-loop
+rules-from-shared-slice-read-end-of-2 t c = omega arith
+
+rules-from-end-of-requires : (t : ℕ) → rules-from-lts.Need-end-of-requires (rules-from-claims t) (rules-from-at t) rules-from.Post rules-from-Inv-loop rules-from-μ-loop
+rules-from-end-of-requires t c κs = c .before .before .before .before .before .before .before .before .before .before .before .pre .1 .0 .entries
+
+rules-from-add-start-of : (t : ℕ) → rules-from-lts.Need-add-start-of (rules-from-claims t) (rules-from-at t) rules-from.Post rules-from-Inv-loop rules-from-μ-loop
+rules-from-add-start-of t c = omega arith
+
+rules-from-shared-slice-read-start-of : (t : ℕ) → rules-from-lts.Need-shared-slice-read-start-of (rules-from-claims t) (rules-from-at t) rules-from.Post rules-from-Inv-loop rules-from-μ-loop
+rules-from-shared-slice-read-start-of t c = omega arith
+
+rules-from-add-start-of-2 : (t : ℕ) → rules-from-lts.Need-add-start-of-2 (rules-from-claims t) (rules-from-at t) rules-from.Post rules-from-Inv-loop rules-from-μ-loop
+rules-from-add-start-of-2 t c = omega arith
+
+rules-from-shared-slice-read-start-of-2 :
+    (t : ℕ) → rules-from-lts.Need-shared-slice-read-start-of-2 (
+      next-rule-reads.Asked,
+      next-rule-reads.Learnt,
+      insert-reads.Asked,
+      insert-reads.Learnt,
+      joined-reads.Asked,
+      joined-reads.Learnt,
+      left-over-below t,
+      left-over.Post,
+      end-of-reads.Asked,
+      end-of-reads.Learnt,
+      start-of-reads.Asked,
+      start-of-reads.Learnt,
+      runs-with-below t,
+      runs-with.Post,
+    ) (rules-from-at t) rules-from.Post rules-from-Inv-loop rules-from-μ-loop
+rules-from-shared-slice-read-start-of-2 t c = omega arith
+
+rules-from-start-of-requires : (t : ℕ) → rules-from-lts.Need-start-of-requires (rules-from-claims t) (rules-from-at t) rules-from.Post rules-from-Inv-loop rules-from-μ-loop
+rules-from-start-of-requires t c κs = c .before .before .before .before .before .before .before .before .before .before .before .before .before .before .pre .1 .0 .entries
+
 rules-from-loop-holds : (t : ℕ) → rules-from-lts.Need-loop-holds (rules-from-claims t) (rules-from-at t) rules-from.Post rules-from-Inv-loop rules-from-μ-loop
-rules-from-loop-holds t c = (refl, refl, λ g old b n s h late. scan-starts g old b n _ _ _ _ s _ _ _ h)
+rules-from-loop-holds t c = (refl, refl, λ g old b n s h late. scan-from g old b n _ _ _ _ _ _ (begins-nothing g old _ _ _ _ (c .before .before .before .before .before .before .before .before .before .before .before .before .before .before .before .args .union) _ _ (to-is g old b n _ _ _ _ _ _ s h _ (c .before .before .before .before .before .before .before .before .if1 .left)) (above-is g old b n _ _ _ _ _ _ s h _ (c .before .before .before .before .before .before .before .before .if1 .left))) _ _ _ s h _ (c .start-of .ensures))
 
 rules-from-runs-with-requires : (t : ℕ) → rules-from-lts.Need-runs-with-requires (rules-from-claims t) (rules-from-at t) rules-from.Post rules-from-Inv-loop rules-from-μ-loop
-rules-from-runs-with-requires t c κs = search needs
+rules-from-runs-with-requires t c κs = (omega (arith, c .before .before .before .before .before .before .before .before .before .before .before .before .before .before .before .before .before .before .before .pre .0, c .before .before .before .before .before .before .before .before .before .before .before .before .before .before .next-rule .ensures .after, c .before .before .before .before .before .before .before .before .before .before .before .before .if1 .left), (c .before .before .before .before .before .before .before .before .before .before .before .before .before .before .before .before .before .before .before .pre .1 .0, c .before .before .before .before .before .before .before .before .before .before .before .before .if1 .left, omega (arith, c .before .before .loop-test .taken, c .before .before .before .before .before .before .before .end-of .ensures .within)))
 
 rules-from-add-i : (t : ℕ) → rules-from-lts.Need-add-i (rules-from-claims t) (rules-from-at t) rules-from.Post rules-from-Inv-loop rules-from-μ-loop
 rules-from-add-i t c = omega arith
@@ -289,7 +345,7 @@ rules-from-loop-less : (t : ℕ) → rules-from-lts.Need-loop-less (rules-from-c
 rules-from-loop-less t c = omega arith
 
 rules-from-loop-again : (t : ℕ) → rules-from-lts.Need-loop-again (rules-from-claims t) (rules-from-at t) rules-from.Post rules-from-Inv-loop rules-from-μ-loop
-rules-from-loop-again t c = (c .before .before .before .before .runs-with .ensures .1 .0 ∙ c .before .before .before .before .before .before .before .before .before .loop .inv .0, c .before .before .before .before .runs-with .ensures .1 .1 ∙ c .before .before .before .before .before .before .before .before .before .loop .inv .1, λ g old b n s h late. let k = c .before .before .before .before .before .before .before .before .before .loop .inv .2 g old b n s h late in scan-next g old b n _ _ _ _ s _ _ _ _ k (c .before .before .before .before .before .before .before .if3 .taken) _ _ _ (begun g old b n _ _ _ _ _ _ (k .now) (k .entered) _ _ _ (c .before .before .before .before .runs-with .ensures .0 g old b n (k .now) (k .entered) (job-of g old b n _ _ _ _ _ _ s h _ (c .before .before .before .before .before .before .before .before .before .before .before .before .before .before .before .before .before .before .before .args .union) _ (c .before .before .before .before .before .before .before .before .before .before .before .before .before .before .next-rule .ensures) (c .before .before .before .before .before .before .before .before .before .before .before .before .if1 .left) late))))
+rules-from-loop-again t c = (c .before .before .before .before .runs-with .ensures .1 .0 ∙ c .before .before .before .before .before .before .before .before .loop .inv .0, c .before .before .before .before .runs-with .ensures .1 .1 ∙ c .before .before .before .before .before .before .before .before .loop .inv .1, λ g old b n s h late. let k = c .before .before .before .before .before .before .before .before .loop .inv .2 g old b n s h late in scan-next g old b n _ _ _ _ s _ _ _ _ k (omega (arith, c .before .before .before .before .before .before .before .loop-test .taken, c .before .before .before .before .before .before .before .before .before .before .before .before .end-of .ensures .within)) _ _ _ (begun g old b n _ _ _ _ _ _ (k .now) (k .entered) _ _ _ (c .before .before .before .before .runs-with .ensures .0 g old b n (k .now) (k .entered) (job-of g old b n _ _ _ _ _ _ s h _ (c .before .before .before .before .before .before .before .before .before .before .before .before .before .before .before .before .before .before .before .before .before .before .before .before .args .union) _ (c .before .before .before .before .before .before .before .before .before .before .before .before .before .before .before .before .before .before .before .next-rule .ensures) (c .before .before .before .before .before .before .before .before .before .before .before .before .before .before .before .before .before .if1 .left) late))))
 
 rules-from-same-length-4 : (t : ℕ) → rules-from-lts.Need-same-length-4 (rules-from-claims t) (rules-from-at t) rules-from.Post rules-from-Inv-loop rules-from-μ-loop
 rules-from-same-length-4 t c = search needs
@@ -298,7 +354,7 @@ rules-from-same-length-5 : (t : ℕ) → rules-from-lts.Need-same-length-5 (rule
 rules-from-same-length-5 t c = search needs
 
 rules-from-returns-3 : (t : ℕ) → rules-from-lts.Need-returns-3 (rules-from-claims t) (rules-from-at t) rules-from.Post rules-from-Inv-loop rules-from-μ-loop
-rules-from-returns-3 t c = (λ g old b n s h late some. let l = c .before .before .before .before .before .if1 .left in writes-first g old b n _ _ _ _ _ _ s h _ _ _ (c .before .before .before .before .before .before .before .next-rule .ensures) l (λ z. c .before .before .before .if2 .left (count-is g old b n _ _ _ _ _ _ s h _ l ∙ z)) (scan-ends g old b n _ _ _ _ s _ _ _ _ (c .before .before .loop .inv .2 g old b n s h late) (c .if3 .left)), (c .before .before .loop .inv .0, c .before .before .loop .inv .1))
+rules-from-returns-3 t c = (λ g old b n s h late some. let l = c .before .before .before .before .before .before .before .before .before .before .if1 .left in writes-first g old b n _ _ _ _ _ _ s h _ _ _ (c .before .before .before .before .before .before .before .before .before .before .before .before .next-rule .ensures) l (λ z. c .before .before .before .before .before .before .before .before .if2 .left (count-is g old b n _ _ _ _ _ _ s h _ l ∙ z)) (scan-to g old b n _ _ _ _ _ _ (begins-nothing g old _ _ _ _ (c .before .before .before .before .before .before .before .before .before .before .before .before .before .before .before .before .before .args .union) _ _ (to-is g old b n _ _ _ _ _ _ s h _ (c .before .before .before .before .before .before .before .before .before .before .if1 .left)) (above-is g old b n _ _ _ _ _ _ s h _ (c .before .before .before .before .before .before .before .before .before .before .if1 .left))) s _ _ _ _ (c .before .loop .inv .2 g old b n s h late) _ (c .before .before .before .before .before .end-of .ensures) (c .loop-test .left)), (c .before .loop .inv .0, c .before .loop .inv .1))
 
 runs-with-at-requires : (t : ℕ) → runs-with-lts.Need-at-requires (runs-with-claims t) (runs-with-at t) runs-with.Post
 runs-with-at-requires t c κs = search needs
@@ -361,10 +417,10 @@ runs-with-returns-4 : (t : ℕ) → runs-with-lts.Need-returns-4 (runs-with-clai
 runs-with-returns-4 t c = (λ g old b n s h whole. begins-two g old b n _ _ _ _ _ _ s h _ _ _ _ (set-of g old b n _ _ _ _ _ _ s h _ (c .before .before .before .before .before .before .before .before .before .before .before .before .before .before .before .before .before .before .before .before .pre .1 .2) _ (c .before .before .before .before .before .before .before .before .before .before .before .before .before .before .before .at .ensures)) (same-head g old b n _ _ _ _ _ _ s h _ (c .before .before .before .before .before .before .before .before .before .before .before .before .before .before .before .before .before .before .before .before .pre .1 .2) _ (c .before .before .before .before .before .before .before .before .before .before .before .before .before .before .before .at .ensures) _ _ (sym (c .before .before .before .before .before .before .before .before .before .before .before .before .before .before .state .ensures) ∙ c .before .before .before .before .before .before .before .before .before .before .before .before .if1 .left ∙ to-is g old b n _ _ _ _ _ _ s h _ (c .before .before .before .before .before .before .before .before .before .before .before .before .before .before .before .before .before .before .before .before .pre .1 .1)) (sym (c .before .before .before .before .before .before .before .before .before .before .before .letter .ensures) ∙ c .before .before .before .before .before .before .before .before .before .if2 .left ∙ above-is g old b n _ _ _ _ _ _ s h _ (c .before .before .before .before .before .before .before .before .before .before .before .before .before .before .before .before .before .before .before .before .pre .1 .1))) (λ e. c .before .before .before .before .before .before .before .if3 .left (count-is g old b n _ _ _ _ _ _ s h _ (c .before .before .before .before .before .before .before .before .before .before .before .before .before .before .before .before .before .before .before .before .pre .1 .1) ∙ e)) (c .before .before .before .before .left-over2 .ensures .0 g old b n s h whole (set-below g old b n _ _ _ _ _ _ s h _ (c .before .before .before .before .before .before .before .before .before .before .before .before .before .before .before .before .before .before .before .before .pre .1 .2) _ (c .before .before .before .before .before .before .before .before .before .before .before .before .before .before .before .at .ensures)) (set-adds g old b n _ _ _ _ _ _ s h _ (c .before .before .before .before .before .before .before .before .before .before .before .before .before .before .before .before .before .before .before .before .pre .1 .2) _ (c .before .before .before .before .before .before .before .before .before .before .before .before .before .before .before .at .ensures) _)), c .before .before .before .before .left-over2 .ensures .1)
 
 abbrev spread-Inv-loop : spread-lts.InvT-loop
-spread-Inv-loop job rules work table₀ memo₀ count r left union q rest filled₀ i₀ table memo filled i = (length table ≡ length table₀) × (length memo ≡ length memo₀) × ((g : PushdownGame) (old : List Entry) (birthdate n : ℕ) (s : Growing) → Entered g old birthdate n job rules work table₀ count memo₀ s → Whole g job r → left < 2 ^ g .states → Scanning g old birthdate n job rules work (passOf g old (job .state) (job .letter) (job .end) r q rest union) s i table filled memo)
+spread-Inv-loop job rules work table₀ memo₀ count r left union q rest below end filled₀ i₀ table memo filled i = (length table ≡ length table₀) × (length memo ≡ length memo₀) × ((g : PushdownGame) (old : List Entry) (birthdate n : ℕ) (s : Growing) → Entered g old birthdate n job rules work table₀ count memo₀ s → Whole g job r → left < 2 ^ g .states → Scanning g old birthdate n job rules work (passOf g old (job .state) (job .letter) (job .end) r q rest union) s i table filled memo)
 
 abbrev spread-μ-loop : spread-lts.MeasureT-loop
-spread-μ-loop job rules work table₀ memo₀ count r left union q rest filled₀ i₀ table memo filled i = job .count - i
+spread-μ-loop job rules work table₀ memo₀ count r left union q rest below end filled₀ i₀ table memo filled i = end - i
 
 spread-add-rules-from : (t : ℕ) → spread-lts.Need-add-rules-from (spread-claims t) (spread-at t) spread.Post spread-Inv-loop spread-μ-loop
 spread-add-rules-from t c = omega arith
@@ -393,11 +449,26 @@ spread-shl-rest t c = omega arith
 spread-rem-rest : (t : ℕ) → spread-lts.Need-rem-rest (spread-claims t) (spread-at t) spread.Post spread-Inv-loop spread-μ-loop
 spread-rem-rest t c = rw (shifted-one (c .highest .result) (c .highest .ensures .small)) (pow-pos (c .highest .result))
 
+spread-mul-below : (t : ℕ) → spread-lts.Need-mul-below (spread-claims t) (spread-at t) spread.Post spread-Inv-loop spread-μ-loop
+spread-mul-below t c = omega arith
+
+spread-add-below : (t : ℕ) → spread-lts.Need-add-below (spread-claims t) (spread-at t) spread.Post spread-Inv-loop spread-μ-loop
+spread-add-below t c = omega arith
+
+spread-shared-slice-read-below : (t : ℕ) → spread-lts.Need-shared-slice-read-below (spread-claims t) (spread-at t) spread.Post spread-Inv-loop spread-μ-loop
+spread-shared-slice-read-below t c = omega arith
+
+spread-end-of-requires : (t : ℕ) → spread-lts.Need-end-of-requires (spread-claims t) (spread-at t) spread.Post spread-Inv-loop spread-μ-loop
+spread-end-of-requires t c κs = c .before .before .before .before .before .before .before .pre .1 .0 .entries
+
+spread-start-of-requires : (t : ℕ) → spread-lts.Need-start-of-requires (spread-claims t) (spread-at t) spread.Post spread-Inv-loop spread-μ-loop
+spread-start-of-requires t c κs = c .before .before .before .before .before .before .before .before .pre .1 .0 .entries
+
 spread-loop-holds : (t : ℕ) → spread-lts.Need-loop-holds (spread-claims t) (spread-at t) spread.Post spread-Inv-loop spread-μ-loop
-spread-loop-holds t c = (refl, refl, λ g old b n s h whole small. scan-starts g old b n _ _ _ _ s _ _ _ h)
+spread-loop-holds t c = (refl, refl, λ g old b n s h whole small. scan-from g old b n _ _ _ _ _ _ (passes-nothing g old _ _ _ _ _ _ (c .before .before .before .before .before .before .before .before .before .args .union) _ (below-is g old b n _ _ _ _ _ _ s h _ (c .before .before .before .before .before .before .before .before .before .pre .1 .1))) _ _ _ s h _ (c .start-of .ensures))
 
 spread-passes-with-requires : (t : ℕ) → spread-lts.Need-passes-with-requires (spread-claims t) (spread-at t) spread.Post spread-Inv-loop spread-μ-loop
-spread-passes-with-requires t c κs = (omega (arith, c .before .before .before .before .before .before .before .before .before .before .before .pre .0, rest-less _ _ (omega (arith, c .before .before .before .before .before .before .if1 .left)) (c .before .before .before .before .before .highest .ensures)), (c .before .before .before .before .before .before .before .before .before .before .before .pre .1 .0, c .before .before .before .before .before .before .before .before .before .before .before .pre .1 .1, c .before .before .if2 .taken))
+spread-passes-with-requires t c κs = (omega (arith, c .before .before .before .before .before .before .before .before .before .before .before .before .before .pre .0, rest-less _ _ (omega (arith, c .before .before .before .before .before .before .before .before .if1 .left)) (c .before .before .before .before .before .before .before .highest .ensures)), (c .before .before .before .before .before .before .before .before .before .before .before .before .before .pre .1 .0, c .before .before .before .before .before .before .before .before .before .before .before .before .before .pre .1 .1, omega (arith, c .before .before .loop-test .taken, c .before .before .before .before .before .end-of .ensures .within)))
 
 spread-add-i : (t : ℕ) → spread-lts.Need-add-i (spread-claims t) (spread-at t) spread.Post spread-Inv-loop spread-μ-loop
 spread-add-i t c = omega arith
@@ -406,7 +477,7 @@ spread-loop-less : (t : ℕ) → spread-lts.Need-loop-less (spread-claims t) (sp
 spread-loop-less t c = omega arith
 
 spread-loop-again : (t : ℕ) → spread-lts.Need-loop-again (spread-claims t) (spread-at t) spread.Post spread-Inv-loop spread-μ-loop
-spread-loop-again t c = (c .before .before .before .before .passes-with .ensures .1 .0 ∙ c .before .before .before .before .before .before .before .before .before .loop .inv .0, c .before .before .before .before .passes-with .ensures .1 .1 ∙ c .before .before .before .before .before .before .before .before .before .loop .inv .1, λ g old b n s h whole small. let k = c .before .before .before .before .before .before .before .before .before .loop .inv .2 g old b n s h whole small in scan-next g old b n _ _ _ _ s _ _ _ _ k (c .before .before .before .before .before .before .before .if2 .taken) _ _ _ (passed g old b n _ _ _ _ _ _ (k .now) (k .entered) _ _ _ _ _ (c .before .before .before .before .passes-with .ensures .0 g old b n (k .now) (k .entered) whole (omega (arith, small, rest-less _ _ (omega (arith, c .before .before .before .before .before .before .before .before .before .before .before .if1 .left)) (c .before .before .before .before .before .before .before .before .before .before .highest .ensures))))))
+spread-loop-again t c = (c .before .before .before .before .passes-with .ensures .1 .0 ∙ c .before .before .before .before .before .before .before .before .loop .inv .0, c .before .before .before .before .passes-with .ensures .1 .1 ∙ c .before .before .before .before .before .before .before .before .loop .inv .1, λ g old b n s h whole small. let k = c .before .before .before .before .before .before .before .before .loop .inv .2 g old b n s h whole small in scan-next g old b n _ _ _ _ s _ _ _ _ k (omega (arith, c .before .before .before .before .before .before .before .loop-test .taken, c .before .before .before .before .before .before .before .before .before .before .end-of .ensures .within)) _ _ _ (passed g old b n _ _ _ _ _ _ (k .now) (k .entered) _ _ _ _ _ (c .before .before .before .before .passes-with .ensures .0 g old b n (k .now) (k .entered) whole (omega (arith, small, rest-less _ _ (omega (arith, c .before .before .before .before .before .before .before .before .before .before .before .before .before .if1 .left)) (c .before .before .before .before .before .before .before .before .before .before .before .before .highest .ensures))))))
 
 spread-same-length-3 : (t : ℕ) → spread-lts.Need-same-length-3 (spread-claims t) (spread-at t) spread.Post spread-Inv-loop spread-μ-loop
 spread-same-length-3 t c = search needs
@@ -415,7 +486,7 @@ spread-same-length-4 : (t : ℕ) → spread-lts.Need-same-length-4 (spread-claim
 spread-same-length-4 t c = search needs
 
 spread-returns-2 : (t : ℕ) → spread-lts.Need-returns-2 (spread-claims t) (spread-at t) spread.Post spread-Inv-loop spread-μ-loop
-spread-returns-2 t c = (λ g old b n s h whole small some. highest-passed g old b n _ _ _ _ _ _ s h _ _ _ _ _ (omega (arith, c .before .before .before .before .if1 .left)) small (c .before .before .before .highest .ensures) (rest-is _ _ (c .before .before .before .highest .ensures)) (scan-ends g old b n _ _ _ _ s _ _ _ _ (c .before .before .loop .inv .2 g old b n s h whole small) (c .if2 .left)), (c .before .before .loop .inv .0, c .before .before .loop .inv .1))
+spread-returns-2 t c = (λ g old b n s h whole small some. highest-passed g old b n _ _ _ _ _ _ s h _ _ _ _ _ (omega (arith, c .before .before .before .before .before .before .if1 .left)) small (c .before .before .before .before .before .highest .ensures) (rest-is _ _ (c .before .before .before .before .before .highest .ensures)) (scan-to g old b n _ _ _ _ _ _ (passes-nothing g old _ _ _ _ _ _ (c .before .before .before .before .before .before .before .before .before .before .before .args .union) _ (below-is g old b n _ _ _ _ _ _ s h _ (c .before .before .before .before .before .before .before .before .before .before .before .pre .1 .1))) s _ _ _ _ (c .before .loop .inv .2 g old b n s h whole small) _ (c .before .before .before .end-of .ensures) (c .loop-test .left)), (c .before .loop .inv .0, c .before .loop .inv .1))
 
 pub +left-over+passes-with+rules-from+runs-with+spread-spec : {M : Type 1} → statement M
 +left-over+passes-with+rules-from+runs-with+spread-spec =
@@ -465,6 +536,16 @@ pub +left-over+passes-with+rules-from+runs-with+spread-spec : {M : Type 1} → s
     (rules-from-same-length-2 t)
     (rules-from-same-length-3 t)
     (rules-from-returns-2 t)
+    (rules-from-add-end-of t)
+    (rules-from-shared-slice-read-end-of t)
+    (rules-from-add-end-of-2 t)
+    (rules-from-shared-slice-read-end-of-2 t)
+    (rules-from-end-of-requires t)
+    (rules-from-add-start-of t)
+    (rules-from-shared-slice-read-start-of t)
+    (rules-from-add-start-of-2 t)
+    (rules-from-shared-slice-read-start-of-2 t)
+    (rules-from-start-of-requires t)
     (rules-from-loop-holds t)
     (rules-from-runs-with-requires t)
     (rules-from-add-i t)
@@ -510,6 +591,11 @@ pub +left-over+passes-with+rules-from+runs-with+spread-spec : {M : Type 1} → s
     (spread-cast-rest t)
     (spread-shl-rest t)
     (spread-rem-rest t)
+    (spread-mul-below t)
+    (spread-add-below t)
+    (spread-shared-slice-read-below t)
+    (spread-end-of-requires t)
+    (spread-start-of-requires t)
     (spread-loop-holds t)
     (spread-passes-with-requires t)
     (spread-add-i t)
