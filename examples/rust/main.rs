@@ -1,0 +1,111 @@
+//! The library from Rust: reads a game file, solves it, judges a position, and plays from there to the target. On Éloise's turn
+//! the advised rule is played; Abelard plays worst, that is the rule of his head after which the bound is largest, the lowest
+//! number of several. Prints every move.
+//!
+//!     example FILE STATE LETTER..      the stack's letters, top first, 0 last
+//!
+//! Leaves out: writing a game file, and a table kept from an earlier call.
+
+mod pushdown;
+
+use pushdown::{Question, Refused, Session, Verdict, MAX_RULES, MAX_TABLE};
+use std::process::ExitCode;
+
+/// Abelard's worst rule and the session after it. Every rule number is tried on a copy of the session; question 16 tells those
+/// that are not of the head.
+fn worst(file: &[u8], table: &[u32], session: &Session) -> Result<(u32, Session), Refused> {
+    let mut found: Option<(u64, u32, Session)> = None;
+    for rule in 0..MAX_RULES {
+        let mut after = session.clone();
+        match after.play(file, rule) {
+            Ok(()) => {}
+            Err(Refused { question: Question::Rule, .. }) => continue,
+            Err(refused) => return Err(refused),
+        }
+        let bound = match pushdown::judge(file, table, &after.position())? {
+            Verdict::Lost => u64::MAX,
+            Verdict::Target => 0,
+            Verdict::Eloise { bound, .. } | Verdict::Abelard { bound } => bound,
+        };
+        if found.as_ref().map_or(true, |(largest, _, _)| bound > *largest) {
+            found = Some((bound, rule, after));
+        }
+    }
+    let (_, rule, after) = found.expect("every head has a rule: question 9");
+    Ok((rule, after))
+}
+
+fn shown(position: &[u8]) -> String {
+    let letters: Vec<String> = position[1..].iter().map(u8::to_string).collect();
+    format!("({},[{}])", position[0], letters.join(","))
+}
+
+/// Prints the game and the moves from a position, and says whether the target was reached.
+fn play(file: &[u8], position: &[u8]) -> Result<bool, Refused> {
+    let sizes = pushdown::read(file)?;
+    println!(
+        "read: {} control states, {} states, {} letters, {} rules, {} target transitions",
+        sizes.control, sizes.states, sizes.letters, sizes.rules, sizes.targets
+    );
+    let mut table = vec![0u32; MAX_TABLE];
+    let mut work = vec![0u32; MAX_TABLE];
+    let solved = pushdown::solve(file, &mut table, &mut work)?;
+    println!("solved: {} entries, {} rounds", solved.entries, solved.rounds);
+
+    // The judge asks the position's form, length included, so that a session can be started at it.
+    pushdown::judge(file, &table, position)?;
+    let mut session = Session::start(position).expect("a position in form has 2 to 257 bytes");
+    let mut moves = 0u64;
+    loop {
+        let position = session.position();
+        print!("{} ", shown(&position));
+        match pushdown::judge(file, &table, &position)? {
+            Verdict::Lost => {
+                println!("lost");
+                return Ok(false);
+            }
+            Verdict::Target => {
+                println!("target after {moves} moves");
+                return Ok(true);
+            }
+            Verdict::Eloise { rule, bound } => {
+                println!("bound {bound}, Éloise plays the advised rule {rule}");
+                session.play(file, rule)?;
+            }
+            Verdict::Abelard { bound } => {
+                let (rule, after) = worst(file, &table, &session)?;
+                println!("bound {bound}, Abelard plays rule {rule}");
+                session = after;
+            }
+        }
+        moves += 1;
+    }
+}
+
+fn main() -> ExitCode {
+    let mut arguments = std::env::args().skip(1);
+    let Some(name) = arguments.next() else {
+        eprintln!("usage: example FILE STATE LETTER..");
+        return ExitCode::from(2);
+    };
+    let file = match std::fs::read(&name) {
+        Ok(file) => file,
+        Err(error) => {
+            eprintln!("example: {name}: {error}");
+            return ExitCode::from(2);
+        }
+    };
+    let position: Result<Vec<u8>, _> = arguments.map(|word| word.parse::<u8>()).collect();
+    let Ok(position) = position else {
+        eprintln!("example: a control state and letters are numbers from 0 to 255");
+        return ExitCode::from(2);
+    };
+    match play(&file, &position) {
+        Ok(true) => ExitCode::SUCCESS,
+        Ok(false) => ExitCode::FAILURE,
+        Err(Refused { question, place }) => {
+            println!("refused by {question:?} at {place}");
+            ExitCode::FAILURE
+        }
+    }
+}
