@@ -11,6 +11,17 @@ pub fn put(file: &mut [u8], at: usize, x: u8) -> usize {
     up(at)
 }
 
+// Bytes at the start of a file.
+pub fn put_bytes(file: &mut [u8], bytes: &[u8]) -> usize {
+    let mut at = 0;
+    let mut i = 0;
+    while i < bytes.len() {
+        at = put(file, at, bytes[i]);
+        i += 1;
+    }
+    at
+}
+
 // One byte n times.
 pub fn put_times(file: &mut [u8], at: usize, n: usize, x: u8) -> usize {
     let mut to = at;

@@ -1,9 +1,18 @@
-// Scripts that test programs read: their words, numbers and bytes, and files built in a buffer.
+// What test programs share: the words, numbers and bytes of the scripts that they read, files built in a buffer, and areas of
+// words.
+mod areas;
 mod build;
 mod text;
 
+pub use areas::copy;
+pub use areas::fill;
+pub use areas::front_words;
+pub use areas::is_same;
+pub use areas::is_zero;
+pub use areas::lent;
 pub use build::front;
 pub use build::put;
+pub use build::put_bytes;
 pub use build::put_d;
 pub use build::put_long;
 pub use build::put_times;

@@ -3,12 +3,6 @@
 //   a case of judging, over the table that solving leaves, is a control state, a letter, how often it stands above the bottom,
 //   and the verdict.
 // An answer or verdict is a word, told by its first letter, and two numbers (`told.rt` has their meaning).
-use crate::areas::copy;
-use crate::areas::fill;
-use crate::areas::front_words;
-use crate::areas::is_same;
-use crate::areas::is_zero;
-use crate::areas::lent;
 use crate::tally::Tally;
 use crate::told::Told;
 use game::Game;
@@ -16,7 +10,13 @@ use judge::judge;
 use script::after_word;
 use script::byte_at;
 use script::byte_of;
+use script::copy;
+use script::fill;
 use script::front;
+use script::front_words;
+use script::is_same;
+use script::is_zero;
+use script::lent;
 use script::put;
 use script::put_times;
 use script::value_at;

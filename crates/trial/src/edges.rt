@@ -6,6 +6,7 @@ use crate::tally::Tally;
 use script::byte_of;
 use script::front;
 use script::put;
+use script::put_bytes;
 use script::put_long;
 use script::put_times;
 
@@ -223,15 +224,4 @@ fn put_pairs(file: &mut [u8], at: usize, n: usize) -> usize {
         i += 1;
     }
     to
-}
-
-// Bytes at the start of a file.
-fn put_bytes(file: &mut [u8], bytes: &[u8]) -> usize {
-    let mut at = 0;
-    let mut i = 0;
-    while i < bytes.len() {
-        at = put(file, at, bytes[i]);
-        i += 1;
-    }
-    at
 }

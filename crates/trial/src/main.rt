@@ -4,7 +4,6 @@
 //
 // It leaves out what the contracts say for all inputs: these are cases. It leaves out the reader's own cases, which are those
 // of `game_cases`.
-mod areas;
 mod cases;
 mod counts;
 mod edges;

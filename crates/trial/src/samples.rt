@@ -1,6 +1,4 @@
 // Samples A, B, C and D: their tables, verdicts, and tables that just hold them or lack one entry.
-use crate::areas::front_words;
-use crate::areas::lent;
 use crate::cases::WHOLE;
 use crate::cases::does_solve;
 use crate::cases::every_case;
@@ -10,6 +8,8 @@ use crate::tally::Tally;
 use crate::told::Told;
 use judge::judge;
 use script::front;
+use script::front_words;
+use script::lent;
 use script::put_d;
 use script::up;
 

@@ -5,8 +5,6 @@
 //   - the plain solver finds a win wherever the bound is within the depth;
 //   - where it is judged lost, all rules of Éloise's head lead to positions judged lost, and some rule of Abelard's does;
 //   - where it is judged won, it is played to the target within the bound.
-use crate::areas::front_words;
-use crate::areas::lent;
 use crate::cases::WHOLE;
 use crate::cases::words_of;
 use crate::counts::Counts;
@@ -24,6 +22,8 @@ use crate::plays::play;
 use crate::plays::spread_of;
 use crate::told::Told;
 use script::front;
+use script::front_words;
+use script::lent;
 use script::up;
 use solver::solve;
 

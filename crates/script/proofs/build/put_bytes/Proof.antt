@@ -1,27 +1,27 @@
--- `areas::fill` ends and is safe. The loop keeps the area's length, and its test is the index's bound. The measure is what is
--- left of the area.
+-- `build::put_bytes` ends and is safe. The loop keeps the file's length, and its test is the index's bound. The measure is how
+-- many bytes are left.
 -- Assumes nothing.
 use Prim.Native.Nat.{_-_}
 use mathlib.Core.Path.{_≡_}
 use lib.ListN.{length}
 use borrow.Author.Needs.{needs}
-use Rattle.trial.proofs.areas.fill.Statement.{statement}
-use Rattle.trial.proofs.areas.fill.Tie as tie
+use Rattle.script.proofs.build.put_bytes.Statement.{statement}
+use Rattle.script.proofs.build.put_bytes.Tie as tie
 
 abbrev Inv-loop : tie.InvT-loop
-Inv-loop words₀ x i₀ words i = length words ≡ length words₀
+Inv-loop file₀ bytes at₀ i₀ file at i = length file ≡ length file₀
 
 abbrev μ-loop : tie.MeasureT-loop
-μ-loop words₀ x i₀ words i = length words₀ - i
+μ-loop file₀ bytes at₀ i₀ file at i = length bytes - i
 
 loop-holds : tie.Need-loop-holds Inv-loop μ-loop
 loop-holds c = search needs
 
-mul-words : tie.Need-mul-words Inv-loop μ-loop
-mul-words c = search needs
+shared-slice-read-put : tie.Need-shared-slice-read-put Inv-loop μ-loop
+shared-slice-read-put c = search needs
 
-slice-write-words : tie.Need-slice-write-words Inv-loop μ-loop
-slice-write-words c = search needs
+put-requires : tie.Need-put-requires Inv-loop μ-loop
+put-requires c κs = search needs
 
 add-i : tie.Need-add-i Inv-loop μ-loop
 add-i c = search needs
@@ -38,15 +38,15 @@ same-length c = search needs
 returns : tie.Need-returns Inv-loop μ-loop
 returns c = search needs
 
-pub fill-spec : {M : Type 1} → statement M
-fill-spec =
+pub put-bytes-spec : {M : Type 1} → statement M
+put-bytes-spec =
     tie.close
     (tie.spec
     Inv-loop
     μ-loop
     loop-holds
-    mul-words
-    slice-write-words
+    shared-slice-read-put
+    put-requires
     add-i
     loop-less
     loop-again

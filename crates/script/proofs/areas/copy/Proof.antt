@@ -5,8 +5,8 @@ use Prim.Native.Nat.{_-_}
 use mathlib.Core.Path.{_≡_}
 use lib.ListN.{length}
 use borrow.Author.Needs.{needs}
-use Rattle.trial.proofs.areas.copy.Statement.{statement}
-use Rattle.trial.proofs.areas.copy.Tie as tie
+use Rattle.script.proofs.areas.copy.Statement.{statement}
+use Rattle.script.proofs.areas.copy.Tie as tie
 
 abbrev Inv-loop : tie.InvT-loop
 Inv-loop from to₀ i₀ to i = length to ≡ length to₀

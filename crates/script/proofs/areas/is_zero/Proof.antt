@@ -3,8 +3,8 @@
 use Prim.Native.Nat.{_-_, _≤_}
 use lib.ListN.{length}
 use borrow.Author.Needs.{needs}
-use Rattle.trial.proofs.areas.is_zero.Statement.{statement}
-use Rattle.trial.proofs.areas.is_zero.Tie as tie
+use Rattle.script.proofs.areas.is_zero.Statement.{statement}
+use Rattle.script.proofs.areas.is_zero.Tie as tie
 
 abbrev Inv-loop : tie.InvT-loop
 Inv-loop words i₀ i = i ≤ length words

@@ -1,30 +1,29 @@
--- `edges::put_bytes` ends and is safe. The loop keeps the file's length, and its test is the index's bound. The measure is how
--- many bytes are left.
+-- `sessions::put_cells` ends and is safe. The loop keeps the length of the position's buffer. The measure is how many cells are
+-- left.
 -- Assumes nothing.
-use Prim.Native.Nat.{_-_}
 use mathlib.Core.Path.{_≡_}
 use lib.ListN.{length}
 use borrow.Author.Needs.{needs}
-use Rattle.trial.proofs.edges.put_bytes.Statement.{statement}
-use Rattle.trial.proofs.edges.put_bytes.Tie as tie
+use Rattle.checklist.proofs.sessions.put_cells.Statement.{statement}
+use Rattle.checklist.proofs.sessions.put_cells.Tie as tie
 
 abbrev Inv-loop : tie.InvT-loop
-Inv-loop file₀ bytes at₀ i₀ file at i = length file ≡ length file₀
+Inv-loop position₀ at stack height to₀ left₀ position to left = length position ≡ length position₀
 
 abbrev μ-loop : tie.MeasureT-loop
-μ-loop file₀ bytes at₀ i₀ file at i = length bytes - i
+μ-loop position₀ at stack height to₀ left₀ position to left = left
 
 loop-holds : tie.Need-loop-holds Inv-loop μ-loop
 loop-holds c = search needs
 
-shared-slice-read-put : tie.Need-shared-slice-read-put Inv-loop μ-loop
-shared-slice-read-put c = search needs
+sub-left : tie.Need-sub-left Inv-loop μ-loop
+sub-left c = search needs
+
+byte-at-requires : tie.Need-byte-at-requires Inv-loop μ-loop
+byte-at-requires c κs = search needs
 
 put-requires : tie.Need-put-requires Inv-loop μ-loop
 put-requires c κs = search needs
-
-add-i : tie.Need-add-i Inv-loop μ-loop
-add-i c = search needs
 
 loop-less : tie.Need-loop-less Inv-loop μ-loop
 loop-less c = search needs
@@ -38,16 +37,16 @@ same-length c = search needs
 returns : tie.Need-returns Inv-loop μ-loop
 returns c = search needs
 
-pub put-bytes-spec : {M : Type 1} → statement M
-put-bytes-spec =
+pub put-cells-spec : {M : Type 1} → statement M
+put-cells-spec =
     tie.close
     (tie.spec
     Inv-loop
     μ-loop
     loop-holds
-    shared-slice-read-put
+    sub-left
+    byte-at-requires
     put-requires
-    add-i
     loop-less
     loop-again
     same-length

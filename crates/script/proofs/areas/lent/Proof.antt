@@ -4,8 +4,8 @@ use mathlib.Core.Path.{sym}
 use lib.Seq.{length-take-le}
 use native.Mathlib.Omega.{arith}
 use borrow.Author.Needs.{needs}
-use Rattle.trial.proofs.areas.lent.Statement.{statement}
-use Rattle.trial.proofs.areas.lent.Tie as tie
+use Rattle.script.proofs.areas.lent.Statement.{statement}
+use Rattle.script.proofs.areas.lent.Tie as tie
 
 returns : tie.Need-returns
 returns c = search needs

@@ -1,0 +1,155 @@
+// A cut game file: every cut of every sample file, from no byte to all but the last, is refused by reader, solver, judge and move
+// with one question and place. These are worked out here by a walk of their own, from document 01.
+//
+// It leaves out files damaged in another way.
+use crate::refusals::Refusal;
+use crate::samples::FILES;
+use crate::samples::file_sample;
+use crate::samples::name_after;
+use crate::samples::put_sample;
+use crate::tally::Tally;
+use game::Game;
+use judge::judge;
+use lines::Line;
+use script::byte_at;
+use script::fill;
+use script::front;
+use script::is_zero;
+use session::play_move;
+use solver::solve;
+
+// What the areas hold before each call.
+const BEFORE: u32 = 4294967295;
+
+pub fn every_file(file: &mut [u8], table: &mut [u32], work: &mut [u32]) -> Tally {
+    let mut t = Tally::none();
+    let mut i = 0;
+    while i < FILES {
+        let size = put_sample(file, file_sample(i));
+        t = t.with(one_file(i, front(file, size), table, work));
+        i += 1;
+    }
+    t
+}
+
+fn one_file(i: usize, file: &[u8], table: &mut [u32], work: &mut [u32]) -> Tally {
+    let t = every_cut(file, table, work);
+    with_whole(t, i, file)
+}
+
+// The line of one file. The whole of it is read, so that no cut is refused for what stands before it.
+fn with_whole(t: Tally, i: usize, file: &[u8]) -> Tally {
+    let line = name_after(file_sample(i), Line::new().word(b"cut file, "))
+        .word(b": ")
+        .number(file.len() as u64)
+        .word(b" cuts, refused by reader, solver, judge and move as document 01 asks");
+    t.held(is_read(file)).end(line)
+}
+
+fn is_read(file: &[u8]) -> bool {
+    reader_on(file).is_same(Refusal::new(0, 0))
+}
+
+fn every_cut(file: &[u8], table: &mut [u32], work: &mut [u32]) -> Tally {
+    let mut t = Tally::none();
+    let mut n = 0;
+    while n < file.len() {
+        t = t.with(one_cut(expected(file, n), front(file, n), table, work));
+        n += 1;
+    }
+    t
+}
+
+// What the first n bytes of a file are refused with. No cut of a file that is read as a whole holds FF, which is its last
+// byte, and questions 3 to 7 are answered yes for each of its commands. So only a missing operand is met, or the end.
+fn expected(file: &[u8], n: usize) -> Refusal {
+    if n == 0 {
+        return Refusal::new(1, 0);
+    }
+    let mut at = 0;
+    while at < n {
+        let size = command_size(byte_at(file, at));
+        if size == 0 {
+            return Refusal::new(2, at);
+        }
+        if n - at < size {
+            return Refusal::new(2, at);
+        }
+        at += size;
+    }
+    Refusal::new(8, n)
+}
+
+// The bytes of a command with its operands; 0 for an unknown one.
+fn command_size(code: u8) -> usize {
+    match code {
+        1 => 4,
+        2 | 3 => 2,
+        4 | 5 => 7,
+        255 => 1,
+        _ => 0,
+    }
+}
+
+// One cut: five tries.
+fn one_cut(expected: Refusal, cut: &[u8], table: &mut [u32], work: &mut [u32]) -> Tally {
+    let t = same(Tally::none(), b"reader", cut, expected, reader_on(cut));
+    let t = same(t, b"move", cut, expected, move_on(cut));
+    over_areas(t, expected, cut, table, work)
+}
+
+// Solver and judge. A refused solve leaves no word in either area.
+fn over_areas(
+    t: Tally,
+    expected: Refusal,
+    cut: &[u8],
+    table: &mut [u32],
+    work: &mut [u32],
+) -> Tally {
+    let t = same(t, b"solver", cut, expected, solver_on(cut, table, work));
+    let t = t.held(are_zero(table, work));
+    same(t, b"judge", cut, expected, judge_on(cut, table))
+}
+
+// One try: an answer is the expected refusal.
+fn same(t: Tally, who: &[u8], cut: &[u8], expected: Refusal, got: Refusal) -> Tally {
+    if expected.is_same(got) {
+        return t.held(true);
+    }
+    let line = Line::new()
+        .word(who)
+        .word(b" on the first ")
+        .number(cut.len() as u64)
+        .word(b" bytes: expected ");
+    got.after(expected.after(line).word(b", got ")).print();
+    t.held(false)
+}
+
+fn reader_on(cut: &[u8]) -> Refusal {
+    let reading = Game::read(cut);
+    let answer = reading.answer;
+    Refusal::of_answer(answer)
+}
+
+fn solver_on(cut: &[u8], table: &mut [u32], work: &mut [u32]) -> Refusal {
+    fill(table, BEFORE);
+    fill(work, BEFORE);
+    Refusal::of_solution(solve(cut, table, work))
+}
+
+fn are_zero(table: &[u32], work: &[u32]) -> bool {
+    if is_zero(table) {
+        return is_zero(work);
+    }
+    false
+}
+
+fn judge_on(cut: &[u8], table: &[u32]) -> Refusal {
+    Refusal::of_verdict(judge(cut, table, b"\x00\x00"))
+}
+
+fn move_on(cut: &[u8]) -> Refusal {
+    let played = play_move(cut, 0, [0; Game::MAX_STACK], 1, 0);
+    let answer = played.answer;
+    Refusal::of_answer(answer)
+}
