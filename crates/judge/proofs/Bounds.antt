@@ -1,30 +1,29 @@
 -- The verdict by the number that the code has for the bound.
-use Prim.Native.Nat.{ℕ, zero, suc, _+_, _-_, _^_, _<_, _≤_}
-use mathlib.Core.Path.{_≡_, refl, sym, ap, subst, _∙_}
-use mathlib.Core.Bool.{Bool, true, false, cond, _&&_}
-use mathlib.Core.List.{List, [], _∷_}
+use Prim.Native.Nat.{ℕ, _-_, _^_, _<_, _≤_}
+use mathlib.Core.Path.{_≡_, sym, ap, subst, _∙_}
+use mathlib.Core.Bool.{Bool, true, false, _&&_}
+use mathlib.Core.List.{List, _∷_}
 use mathlib.Core.Option.{Option, none, some}
 use native.Mathlib.Omega.{arith}
 use lib.ListN.{length, getD, drop, take, length-drop}
-use lib.Dec.{ltb, eqb}
 use borrow.Author.Tests.{lt-ltb, le-ltb, eq-eqb, ne-eqb}
-use Rattle.game.specs.Limits.{maxStates}
 use Rattle.game.specs.Sets.{has}
 use Rattle.game.specs.ListLaws.{_∈_}
 use Rattle.game.specs.Game.{PushdownGame}
-use Rattle.game.specs.Outcome.{Outcome, done, refused}
+use Rattle.game.specs.Outcome.{done, refused}
 use Rattle.game.specs.Stored.{sizesOf}
 use Rattle.game.specs.Win.{isAbelard}
 use Rattle.game.specs.declared.game.Sizes.{Sizes}
 use Rattle.table.specs.Table.{Entry, entriesOf}
-use Rattle.judge.specs.Worth.{Automaton, noWorth, coded, worthIn, tabulate, step, stepWorth, worths, entryOfHead, entryWorth, worthIs, leastOver, headRule, fieldNumber, adviceAt}
-use Rattle.judge.specs.Tabulate.{tabulate-at, tabulate-length}
-use Rattle.judge.specs.Verdict.{Verdict, lost, target, eloise, abelard, orZero, toMove, verdictOf, verdictOver, verdict}
-use Rattle.judge.specs.Machine.{machine, automatonOf, Tame, Young, Low, Lows}
+use Rattle.judge.specs.Worth.{Automaton, noWorth, coded, step, stepWorth, worths, entryOfHead, entryWorth, worthIs, leastOver, headRule, fieldNumber, adviceAt}
+use Rattle.judge.specs.Tabulate.{tabulate-at}
+use Rattle.judge.specs.Verdict.{lost, target, eloise, abelard, orZero, toMove, verdictOf, verdictOver, verdict}
+use Rattle.judge.specs.Machine.{machine, automatonOf, Tame, Young, Low, Lows, leastNumber, headNumber, ruleNumber}
 use Rattle.judge.specs.Judged.{Fielded}
 use Rattle.judge.specs.CodedLaws.{Held, coded-up-to, coded-none, coded-some}
-use Rattle.judge.specs.MachineLaws.{machine-at, low-held}
+use Rattle.judge.specs.MachineLaws.{low-held, step-coded, rules-coded}
 use Rattle.judge.specs.Within.{leastOver-is, tested-is}
+use Rattle.judge.proofs.Steps.{field-small}
 use Rattle.judge.proofs.Recursion.{below-top, top-letter, length-worths, lows, tame-worths}
 
 -- the bound of a control state on a stack, by a game's sizes
@@ -32,7 +31,7 @@ abbrev pub boundOf : Sizes → List Entry → ℕ → List ℕ → Option ℕ
 boundOf sizes es p w =
     stepWorth (automatonOf sizes es) (worths (automatonOf sizes es) (drop 1 w)) p (getD w 0 0)
 
--- what the code reads of a letter's step is the code of the bound
+-- what the code finds for the head of a position is the code of the bound
 module _ (sizes : Sizes) (small : sizes .states ≤ 32) (words : List ℕ) (young : Young words) (p : ℕ) (control : p < sizes .states) (w : List ℕ) (filled : 0 < length w) (short : length w ≤ 256) (below : List ℕ) (b : below ≡ machine (worths (automatonOf sizes (entriesOf words)) (take (length w - 1) (drop 1 w)))) where
   abbrev A : Automaton
   A = automatonOf sizes (entriesOf words)
@@ -46,17 +45,9 @@ module _ (sizes : Sizes) (small : sizes .states ≤ 32) (words : List ℕ) (youn
   pub tamed : Tame below
   tamed = rw stands (tame-worths sizes small words young (drop 1 w) (rw length-drop (omega arith)))
 
-  module _ (here : List ℕ) (h : (rest : List (Option ℕ)) → below ≡ machine rest → length rest ≡ sizes .states → Lows rest → here ≡ machine (step A (getD w 0 0) rest)) where
-    stepped : here ≡ machine (step A (getD w 0 0) (worths A (drop 1 w)))
-    stepped = h (worths A (drop 1 w)) stands (length-worths A (drop 1 w)) low-rest
-
-    pub bound-coded : getD here p 0 ≡ coded (boundOf sizes (entriesOf words) p w)
-    unfolding step
-    bound-coded =
-        let f : ℕ → Option ℕ = λ q. stepWorth A (worths A (drop 1 w)) q (getD w 0 0) in
-        rw stepped
-        (machine-at (tabulate f (sizes .states)) p (omega (arith, tabulate-length f (sizes .states))) (omega arith)
-        ∙ ap coded (tabulate-at f (sizes .states) p none control))
+  pub bound-coded : (number : ℕ) → number ≡ leastNumber (headNumber p (getD w 0 0) (sizes .states) below) (entriesOf words) → number ≡ coded (boundOf sizes (entriesOf words) p w)
+  bound-coded number f =
+      f ∙ rw stands (step-coded sizes small (entriesOf words) (worths A (drop 1 w)) (length-worths A (drop 1 w)) low-rest young p (getD w 0 0))
 
   pub bound-low : Low (boundOf sizes (entriesOf words) p w)
   unfolding worths step
@@ -64,6 +55,13 @@ module _ (sizes : Sizes) (small : sizes .states ≤ 32) (words : List ℕ) (youn
       let f : ℕ → Option ℕ = λ q. stepWorth A (worths A (drop 1 w)) q (getD w 0 0) in
       let l = lows sizes small words young (getD w 0 0 ∷ drop 1 w) (omega (arith, length-drop 1 w)) p in
       subst Low (tabulate-at f (sizes .states) p none control) l
+
+  -- what the code finds for the least rule field is the code of the least one
+  pub rule-least : ((k : ℕ) → getD words k 0 < 2 ^ 32) → (number : ℕ) → number < noWorth → (field : ℕ) → field ≡ leastNumber (ruleNumber p (getD w 0 0) (sizes .states) below number) (entriesOf words) → field ≡ coded (leastOver (headRule A (worths A (drop 1 w)) p (getD w 0 0) number) (entriesOf words))
+  rule-least fields number l field f =
+      f
+      ∙ rw stands
+      (rules-coded sizes small (entriesOf words) (worths A (drop 1 w)) (length-worths A (drop 1 w)) low-rest (field-small words fields) p (getD w 0 0) number l)
 
 -- a least rule field is that of an entry
 fielded : (A : Automaton) (rest : List (Option ℕ)) (p a b : ℕ) (es : List Entry) → ((x : Entry) → x ∈ es → x .rule < 2 ^ 32) → Fielded (leastOver (headRule A rest p a b) es)

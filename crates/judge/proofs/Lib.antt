@@ -1,7 +1,8 @@
 pub mod Bounds
-pub mod Empty
+pub mod Filling
+pub mod Members
+pub mod Passes
 pub mod Recursion
 pub mod Refusals
-pub mod Rules
 pub mod Steps
 pub mod Tests

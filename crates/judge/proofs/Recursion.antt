@@ -1,5 +1,5 @@
 -- The recursion on a stack's rest: the part below the top, and that worths stay far below none.
-use Prim.Native.Nat.{ℕ, zero, suc, _+_, _*_, _-_, _^_, _<_, _≤_}
+use Prim.Native.Nat.{ℕ, _*_, _-_, _^_, _<_, _≤_}
 use mathlib.Core.Path.{_≡_, refl, sym, ap, _∙_}
 use mathlib.Core.Logic.{⊎-elim}
 use mathlib.Core.Bool.{true, false}
@@ -11,11 +11,11 @@ use lib.ListN.{length, getD, take, drop, length-drop}
 use lib.Seq.{take-all}
 use lib.Dec.{ltb}
 use borrow.Author.Tests.{ltb-true, ltb-false}
-use Rattle.game.specs.Limits.{maxStates, maxRounds}
-use Rattle.game.specs.ListLaws.{_∈_, test}
+use Rattle.game.specs.Limits.{maxRounds}
+use Rattle.game.specs.ListLaws.{test}
 use Rattle.game.specs.declared.game.Sizes.{Sizes}
-use Rattle.table.specs.Table.{Entry, entriesOf}
-use Rattle.judge.specs.Worth.{Automaton, baseWeight, coded, worthIn, tabulate, step, worths}
+use Rattle.table.specs.Table.{entriesOf}
+use Rattle.judge.specs.Worth.{Automaton, baseWeight, worthIn, step, worths}
 use Rattle.judge.specs.Tabulate.{tabulate-length}
 use Rattle.judge.specs.Range.{WeightsUpTo, worth-range, baseWeight-mono}
 use Rattle.judge.specs.Machine.{machine, automatonOf, Tame, Young, Low, Lows}

@@ -1,7 +1,6 @@
 -- The refusals before the verdict, and what is known once they are passed.
-use Prim.Native.Nat.{ℕ, _+_, _*_, _-_, _<_, _≤_}
-use mathlib.Core.Path.{_≡_, refl, sym, ap, _∙_}
-use mathlib.Core.Bool.{true, false}
+use Prim.Native.Nat.{ℕ, _-_, _<_, _≤_}
+use mathlib.Core.Path.{_≡_, refl, sym, ap, subst, _∙_}
 use mathlib.Core.List.{List, [], _∷_}
 use native.Mathlib.Omega.{arith}
 use lib.ListN.{length, getD, drop, take, length-drop}
@@ -10,19 +9,22 @@ use borrow.Author.Tests.{ltb-true, ltb-false}
 use types.Run.{OneOf, miss}
 use denote.Enum.Declared.{tagOf}
 use Rattle.game.specs.Game.{PushdownGame}
-use Rattle.game.specs.GoodGame.{Ranged, Good}
+use Rattle.game.specs.GoodGame.{Ranged}
+use Rattle.game.specs.ListLaws.{_∈_}
 use Rattle.game.specs.Outcome.{Outcome, done, refused, answer, said}
 use Rattle.game.specs.Position.{form}
 use Rattle.game.specs.Questions.{reading}
-use Rattle.game.specs.Stored.{stored, sizesOf, Reports}
-use Rattle.game.specs.Held.{Read, was-read}
+use Rattle.game.specs.Stored.{sizesOf, Reports}
+use Rattle.game.specs.Held.{Read}
 use Rattle.game.specs.declared.game.Answer.{Answer}
 use Rattle.game.specs.declared.game.Answer.the-variants.{Done, Refused}
 use Rattle.game.specs.declared.game.Reading.{Reading}
 use Rattle.game.specs.declared.game.Sizes.{Sizes}
 use Rattle.game.proofs.game.Answer as AnswerIs
-use Rattle.table.specs.Table.{Entry, entriesOf, tableForm}
+use Rattle.table.specs.Table.{entriesOf, tableForm}
 use Rattle.table.specs.FormLaws.{accepted, cond-done}
+use Rattle.table.specs.OrderLaws.{accepted-in-order}
+use Rattle.table.specs.Rows.{Sorted, UsedPart}
 use Rattle.judge.specs.Verdict.{Verdict, after, verdict, verdictOfBytes, judgingGame, judging}
 use Rattle.judge.specs.PositionLaws.{cond-not}
 use Rattle.judge.proofs.Recursion.{below-top, top-letter}
@@ -70,11 +72,11 @@ module _ (g : PushdownGame) (words position : List ℕ) where
     unfolding judgingGame after
     no-position a f t = rw table-done (refusal-told (form (g .control) (g .letters) position) a (f ∙ sym (plain (form (g .control) (g .letters) position))) t _)
 
-    -- both are passed
-    pub both-passed : form (g .control) (g .letters) position ≡ done tt → judgingGame g words position ≡ verdict g (entriesOf words) (getD position 0 0) (take (length position - 1) (drop 1 position))
+    -- both are passed: the verdict is that over the part of the table that is used
+    pub both-passed : form (g .control) (g .letters) position ≡ done tt → (part : List ℕ) → UsedPart words part → judgingGame g words position ≡ verdict g (entriesOf part) (getD position 0 0) (take (length position - 1) (drop 1 position))
     unfolding judgingGame after verdictOfBytes
-    both-passed f =
-        rw (table-done, f)
+    both-passed f part u =
+        rw (table-done, f, u .same (accepted-in-order g words table-done))
         (ap (verdictOfBytes g (entriesOf words)) (top-letter position (λ z. omega (arith, in-bytes _ _ position f .many)))
         ∙ ap (verdict g (entriesOf words) (getD position 0 0)) (sym (below-top position)))
 
@@ -97,8 +99,8 @@ pub by-game : (g : PushdownGame) (sizes : Sizes) (position : List ℕ) → sizes
 by-game g sizes position e a f = f ∙ ap (λ (s : Sizes). form (s .control) (s .letters) position) e
 
 -- what the verdict asks
-pub ready : (g : PushdownGame) → Ranged g → (sizes : Sizes) → sizes ≡ sizesOf g → (words position : List ℕ) → tableForm g words ≡ done tt → InBytes (sizes .control) position → (getD position 0 0 < sizes .states) × (sizes .states ≤ 32) × (0 < length (take (length position - 1) (drop 1 position))) × (length (take (length position - 1) (drop 1 position)) ≤ 256) × Young words
-ready g r sizes e words position t b =
+pub ready : (g : PushdownGame) → Ranged g → (sizes : Sizes) → sizes ≡ sizesOf g → (words position : List ℕ) → tableForm g words ≡ done tt → InBytes (sizes .control) position → (part : List ℕ) → UsedPart words part → (getD position 0 0 < sizes .states) × (sizes .states ≤ 32) × (0 < length (take (length position - 1) (drop 1 position))) × (length (take (length position - 1) (drop 1 position)) ≤ 256) × Young part × Sorted part
+ready g r sizes e words position t b part u =
     let n = ap length (below-top position) ∙ length-drop 1 position in
     let c = ap (λ (s : Sizes). s .control) e in
     let k = ap (λ (s : Sizes). s .states) e in (
@@ -106,5 +108,6 @@ ready g r sizes e words position t b =
       omega (arith, r .states),
       omega (arith, b .many),
       omega (arith, b .few),
-      young g words t,
+      λ x m. young g words t x (subst (x ∈_) (u .same (accepted-in-order g words t)) m),
+      u .sorted (accepted-in-order g words t),
     )

@@ -5,6 +5,7 @@ use game::Answer;
 use game::Game;
 use game::position_form;
 use table::table_form;
+use table::used_part;
 ghost use mathlib.Core.Path.{_≡_};
 ghost use Rattle.game.specs.Game.{PushdownGame};
 ghost use Rattle.game.specs.GoodGame.{Ranged};
@@ -42,7 +43,7 @@ pub fn judge_game(game: Game, table: &[u32], position: &[u8]) -> Verdict
     let Answer::Done = shaped else {
         return refusal(shaped);
     };
-    verdict_on(sizes, table, position[0], &position[1..])
+    verdict_on(sizes, used_part(table), position[0], &position[1..])
 }
 
 // A refusal by a question before the verdict's own.

@@ -1,21 +1,24 @@
 // The verdict on a control state and a stack over a table.
 use crate::worth::NONE;
 use crate::worth::entry_worth;
-use crate::worth::letter_step;
+use crate::worth::head_worth;
+use crate::worth::is_of_head;
 use crate::worth::worths;
 use game::Game;
 use game::Sizes;
 use game::has_state;
 use table::EntryWords;
+use table::start_of;
 ghost use mathlib.Core.Path.{_≡_};
 ghost use mathlib.Core.List.{List};
 ghost use mathlib.Core.Option.{Option};
 ghost use Prim.Native.Nat.{ℕ, _≤_, _<_, min};
-ghost use Rattle.game.specs.Limits.{maxStates, maxStack};
+ghost use Rattle.game.specs.Limits.{maxStates, maxStack, maxRounds};
 ghost use lib.ListN.{length, getD};
 ghost use Rattle.game.specs.Game.{PushdownGame};
 ghost use Rattle.game.specs.Stored.{sizesOf};
-ghost use Rattle.table.specs.Table.{entriesOf};
+ghost use Rattle.table.specs.Table.{entryOf, entriesOf};
+ghost use Rattle.table.specs.Rows.{Sorted};
 ghost use Rattle.judge.specs.Worth.{leastOver, headRule, coded, fieldNumber};
 ghost use Rattle.judge.specs.Verdict.{verdict as verdictIs, orZero};
 ghost use Rattle.judge.specs.Machine.{
@@ -24,8 +27,8 @@ ghost use Rattle.judge.specs.Machine.{
   Tame,
   Young,
   Lows,
-  BornIn,
-  usedOfHead,
+  leastNumber,
+  ruleNumber,
   lesserRule,
 };
 ghost use Rattle.judge.specs.Judged.{judged, Fielded};
@@ -42,19 +45,17 @@ pub enum Verdict {
 // 15: bounds are below this.
 const BOUND_LIMIT: u64 = 1125899906842624;
 
-// The verdict on control state `state` and a stack, top letter first, that are in form, over a table in form. What lies
-// below the top is handed on as the part of the stack that it is.
+// The verdict on control state `state` and a stack, top letter first, that are in form, over the used entries of a table in
+// form. What lies below the top is handed on as the part of the stack that it is; of the top letter only the head is asked.
 pub fn verdict_on(sizes: Sizes, table: &[u32], state: u8, stack: &[u8]) -> Verdict
     requires { ⌜ (state < sizes .states) × (sizes .states ≤ maxStates) × (0 < length (now stack)) × (length (now stack) ≤ maxStack)
-        × Young (now table) ⌝ }
+        × Young (now table) × Sorted (now table) ⌝ }
     ensures { λ r. ⌜ ((g : PushdownGame) → sizes ≡ sizesOf g
         → judged r ≡ verdictIs g (entriesOf (now (table .entry))) state (now (stack .entry))) ⌝ }
 {
     let top = stack[0];
     let below = worths(sizes, table, &stack[1..]);
-    let here = letter_step(sizes, table, top, below);
-    let at = state as usize;
-    let bound = here[at];
+    let bound = head_worth(table, state, top, sizes.states, &below);
     if bound == NONE {
         return Verdict::Lost { rule: 0 };
     }
@@ -70,71 +71,55 @@ pub fn verdict_on(sizes: Sizes, table: &[u32], state: u8, stack: &[u8]) -> Verdi
     if has_state(sizes.abelard, state) {
         return Verdict::Abelard { bound };
     }
-    let field = least_rule(sizes, table, state, top, below, bound);
+    let field = least_rule(table, state, top, sizes.states, &below, bound);
     Verdict::Eloise {
         rule: rule_number(field),
         bound,
     }
 }
 
-// The least rule field among the transitions of the head (p, a) of worth `bound`, or none.
+// The least rule field among the transitions of the head (p, a) of worth `bound`, or none. They are looked up as for
+// `head_worth`.
 fn least_rule(
-    sizes: Sizes,
     table: &[u32],
-    p: u8,
-    a: u8,
-    below: [u64; Game::MAX_STATES as usize],
-    bound: u64,
-) -> u64
-    requires { ⌜ (sizes .states ≤ maxStates) × Young (now table) × Tame below ⌝ }
-    ensures { λ r. ⌜ ((rest : List (Option ℕ)) → below ≡ machine rest → length rest ≡ sizes .states → Lows rest
-        → bound < 18446744073709551615
-        → r ≡ coded (leastOver (headRule (automatonOf sizes (entriesOf (now (table .entry)))) rest p a bound)
-        (entriesOf (now (table .entry))))) ⌝ }
-{
-    let mut least = NONE;
-    let mut i = 0;
-    while i < table.len() / EntryWords::STRIDE {
-        let entry = EntryWords::at(table, i);
-        least = lesser_rule(least, entry, p, a, sizes.states, &below, bound);
-        i += 1;
-    }
-    least
-}
-
-// The lesser of a rule field and a transition's, if it is one of the head (p, a) and of worth `bound`.
-fn lesser_rule(
-    least: u64,
-    entry: EntryWords,
     p: u8,
     a: u8,
     states: u8,
     below: &[u64; Game::MAX_STATES as usize],
     bound: u64,
 ) -> u64
-    requires { ⌜ (states ≤ maxStates) × Tame (now below) × BornIn (entry .first) (entry .set) (entry .rule) ⌝ }
-    ensures { λ r. ⌜ r ≡ lesserRule least p a states (now (below .entry)) bound (entry .first) (entry .set) (entry .rule) ⌝ }
+    requires { ⌜ (states ≤ maxStates) × Young (now table) × Sorted (now table) × Tame (now below) ⌝ }
+    ensures { λ r. ⌜ r ≡ leastNumber (ruleNumber p a states (now (below .entry)) bound) (entriesOf (now (table .entry))) ⌝ }
 {
-    if !is_of_head(entry, p, a) {
-        return least;
+    let count = table.len() / EntryWords::STRIDE;
+    let mut least = NONE;
+    let mut i = start_of(table, count, p, a);
+    while i < count {
+        let entry = EntryWords::at(table, i);
+        if !is_of_head(entry, p, a) {
+            return least;
+        }
+        least = lesser_rule(least, entry, states, below, bound);
+        i += 1;
     }
+    least
+}
+
+// The lesser of a rule field and a transition's, if it is of worth `bound`.
+fn lesser_rule(
+    least: u64,
+    entry: EntryWords,
+    states: u8,
+    below: &[u64; Game::MAX_STATES as usize],
+    bound: u64,
+) -> u64
+    requires { ⌜ (states ≤ maxStates) × Tame (now below) × ((entryOf (entry .first) (entry .set) (entry .rule)) .birthdate ≤ maxRounds) ⌝ }
+    ensures { λ r. ⌜ r ≡ lesserRule least states (now (below .entry)) bound (entryOf (entry .first) (entry .set) (entry .rule)) ⌝ }
+{
     if entry_worth(entry, states, below) != bound {
         return least;
     }
     lesser(least, entry.rule)
-}
-
-// A used transition of the head (p, a).
-fn is_of_head(entry: EntryWords, p: u8, a: u8) -> bool
-    ensures { λ r. ⌜ r ≡ usedOfHead p a (entry .first) (entry .set) (entry .rule) ⌝ }
-{
-    if entry.letter() != a {
-        return false;
-    }
-    if entry.state() != p {
-        return false;
-    }
-    !entry.is_unused()
 }
 
 fn lesser(least: u64, field: u32) -> u64

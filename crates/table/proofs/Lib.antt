@@ -1,3 +1,4 @@
 pub mod Checked
 pub mod Halving
 pub mod Pass
+pub mod Used

@@ -1,9 +1,7 @@
-use Prim.Native.Nat.{_≤_}
-use mathlib.Core.Path.{refl, sym, ap, _∙_}
+use mathlib.Core.Path.{sym, ap, _∙_}
 use native.Mathlib.Omega.{arith}
 use Rattle.game.specs.Stored.{heldSizes}
-use Rattle.game.specs.Held.{Held, held, Safe, safe}
-use Rattle.game.specs.declared.game.Sizes.{Sizes}
+use Rattle.game.specs.Held.{held, safe}
 use Rattle.game.specs.Outcome.{said}
 use Rattle.judge.specs.Judged.{judged}
 use Rattle.judge.proofs.Refusals.{in-bytes, no-table, table-done, no-position, both-passed, by-game, ready}
@@ -53,31 +51,38 @@ returns-2 c =
     (by-game g _ _ (c .before .before .before .before .before .before .before .before .before .sizes .ensures ∙ ap heldSizes e) (c .before .before .before .position-form .result) (c .before .before .before .position-form .ensures))
     (c .before .before .match2 .keys2)
 
+used-part-requires : tie.Need-used-part-requires
+used-part-requires c κs = search needs
+
 shared-slice-read-verdict-on : tie.Need-shared-slice-read-verdict-on
-shared-slice-read-verdict-on c = omega (arith, in-bytes _ _ (c .before .before .before .before .before .before .before .before .before .before .before .before .args .position .now) (sym (c .before .before .before .position-form .ensures) ∙ ap said (c .before .enum-told3 .given .1)) .many)
+shared-slice-read-verdict-on c = omega (arith, in-bytes _ _ (c .before .before .before .before .before .before .before .before .before .before .before .before .before .args .position .now) (sym (c .before .before .before .before .position-form .ensures) ∙ ap said (c .before .before .enum-told3 .given .1)) .many)
 
 sub-verdict-on : tie.Need-sub-verdict-on
-sub-verdict-on c = omega (arith, in-bytes _ _ (c .before .before .before .before .before .before .before .before .before .before .before .before .args .position .now) (sym (c .before .before .before .position-form .ensures) ∙ ap said (c .before .enum-told3 .given .1)) .many)
+sub-verdict-on c = omega (arith, in-bytes _ _ (c .before .before .before .before .before .before .before .before .before .before .before .before .before .args .position .now) (sym (c .before .before .before .before .position-form .ensures) ∙ ap said (c .before .before .enum-told3 .given .1)) .many)
 
 part-verdict-on-start : tie.Need-part-verdict-on-start
-part-verdict-on-start c = omega (arith, in-bytes _ _ (c .before .before .before .before .before .before .before .before .before .before .before .before .args .position .now) (sym (c .before .before .before .position-form .ensures) ∙ ap said (c .before .enum-told3 .given .1)) .many)
+part-verdict-on-start c = omega (arith, in-bytes _ _ (c .before .before .before .before .before .before .before .before .before .before .before .before .before .args .position .now) (sym (c .before .before .before .before .position-form .ensures) ∙ ap said (c .before .before .enum-told3 .given .1)) .many)
 
 part-verdict-on-end : tie.Need-part-verdict-on-end
 part-verdict-on-end c = search needs
 
 verdict-on-requires : tie.Need-verdict-on-requires
 verdict-on-requires c κs =
-    ready (c .before .before .before .before .before .before .before .before .before .before .before .before .before .pre .0) (c .before .before .before .before .before .before .before .before .before .before .before .before .before .pre .2) _ (c .before .before .before .before .before .before .before .before .before .before .sizes .ensures ∙ ap heldSizes (c .before .before .before .before .before .before .before .before .before .before .before .before .before .pre .1)) _ _
-    (table-done (c .before .before .before .before .before .before .before .before .before .before .before .before .before .pre .0) _ (c .before .before .before .before .before .before .before .before .before .before .before .before .before .args .position .now) (c .before .before .before .before .before .before .before .table-form .result) (c .before .before .before .before .before .before .before .table-form .ensures (c .before .before .before .before .before .before .before .before .before .before .before .before .before .pre .0) (held _ (c .before .before .before .before .before .before .before .before .before .before .before .before .before .pre .0) _ (c .before .before .before .before .before .before .before .before .before .before .before .before .before .pre .1) (c .before .before .before .before .before .before .before .before .before .before .before .before .before .pre .2) (c .before .before .before .before .before .before .before .before .before .before .sizes .ensures ∙ ap heldSizes (c .before .before .before .before .before .before .before .before .before .before .before .before .before .pre .1)))) (c .before .before .before .before .before .enum-told .given .1))
-    (in-bytes _ _ _ (sym (c .before .before .before .before .position-form .ensures) ∙ ap said (c .before .before .enum-told3 .given .1)))
+    ready (c .before .before .before .before .before .before .before .before .before .before .before .before .before .before .pre .0) (c .before .before .before .before .before .before .before .before .before .before .before .before .before .before .pre .2) _ (c .before .before .before .before .before .before .before .before .before .before .before .sizes .ensures ∙ ap heldSizes (c .before .before .before .before .before .before .before .before .before .before .before .before .before .before .pre .1)) _ _
+    (table-done (c .before .before .before .before .before .before .before .before .before .before .before .before .before .before .pre .0) _ (c .before .before .before .before .before .before .before .before .before .before .before .before .before .before .args .position .now) (c .before .before .before .before .before .before .before .before .table-form .result) (c .before .before .before .before .before .before .before .before .table-form .ensures (c .before .before .before .before .before .before .before .before .before .before .before .before .before .before .pre .0) (held _ (c .before .before .before .before .before .before .before .before .before .before .before .before .before .before .pre .0) _ (c .before .before .before .before .before .before .before .before .before .before .before .before .before .before .pre .1) (c .before .before .before .before .before .before .before .before .before .before .before .before .before .before .pre .2) (c .before .before .before .before .before .before .before .before .before .before .before .sizes .ensures ∙ ap heldSizes (c .before .before .before .before .before .before .before .before .before .before .before .before .before .before .pre .1)))) (c .before .before .before .before .before .before .enum-told .given .1))
+    (in-bytes _ _ _ (sym (c .before .before .before .before .before .position-form .ensures) ∙ ap said (c .before .before .before .enum-told3 .given .1)))
+    _
+    (c .before .before .used-part .ensures)
 
 returns-3 : tie.Need-returns-3
 returns-3 c =
     λ g e r.
-    c .verdict-on .ensures g (c .before .before .before .before .before .before .before .before .before .before .before .sizes .ensures ∙ ap heldSizes e)
+    c .verdict-on .ensures g (c .before .before .before .before .before .before .before .before .before .before .before .before .sizes .ensures ∙ ap heldSizes e)
     ∙ sym
-    (both-passed g _ _ (c .before .before .before .before .before .before .before .before .table-form .result) (c .before .before .before .before .before .before .before .before .table-form .ensures g (held _ g _ e r (c .before .before .before .before .before .before .before .before .before .before .before .sizes .ensures ∙ ap heldSizes e))) (c .before .before .before .before .before .before .enum-told .given .1)
-    (sym (by-game g _ _ (c .before .before .before .before .before .before .before .before .before .before .before .sizes .ensures ∙ ap heldSizes e) (c .before .before .before .before .before .position-form .result) (c .before .before .before .before .before .position-form .ensures)) ∙ ap said (c .before .before .before .enum-told3 .given .1)))
+    (both-passed g _ _ (c .before .before .before .before .before .before .before .before .before .table-form .result) (c .before .before .before .before .before .before .before .before .before .table-form .ensures g (held _ g _ e r (c .before .before .before .before .before .before .before .before .before .before .before .before .sizes .ensures ∙ ap heldSizes e))) (c .before .before .before .before .before .before .before .enum-told .given .1)
+    (sym (by-game g _ _ (c .before .before .before .before .before .before .before .before .before .before .before .before .sizes .ensures ∙ ap heldSizes e) (c .before .before .before .before .before .before .position-form .result) (c .before .before .before .before .before .before .position-form .ensures)) ∙ ap said (c .before .before .before .before .enum-told3 .given .1))
+    _
+    (c .before .before .before .used-part .ensures))
 
 pub judge-game-spec : {M : Type 1} → statement M
 judge-game-spec =
@@ -95,6 +100,7 @@ judge-game-spec =
     enum-told-4
     refusal-requires-2
     returns-2
+    used-part-requires
     shared-slice-read-verdict-on
     sub-verdict-on
     part-verdict-on-start

@@ -1,7 +1,6 @@
 use native.Mathlib.Omega.{arith}
-use Rattle.judge.proofs.Recursion.{length-worths}
-use Rattle.judge.proofs.Rules.{field-small}
-use Rattle.judge.proofs.Bounds.{stands, low-rest, tamed, bound-coded, bound-low, is-lost, is-over, is-target, is-abelard, is-eloise}
+use Rattle.judge.proofs.Steps.{field-small}
+use Rattle.judge.proofs.Bounds.{tamed, bound-coded, bound-low, rule-least, is-lost, is-over, is-target, is-abelard, is-eloise}
 use borrow.Author.Needs.{needs}
 use Rattle.judge.proofs.verdict.verdict_on.Statement.{statement}
 use Rattle.judge.proofs.verdict.verdict_on.Tie as tie
@@ -21,33 +20,26 @@ part-worths-end c = search needs
 worths-requires : tie.Need-worths-requires
 worths-requires c κs = search needs
 
-letter-step-requires : tie.Need-letter-step-requires
-letter-step-requires c κs =
-    (c .before .before .before .before .before .pre .1, c .before .before .before .before .before .pre .4, tamed (c .before .before .before .before .before .args .sizes) (c .before .before .before .before .before .pre .1) _ (c .before .before .before .before .before .pre .4) _ (c .before .before .before .before .before .pre .0) (c .before .before .before .before .before .args .stack .now) (c .before .before .before .before .before .pre .2) (c .before .before .before .before .before .pre .3) _ (c .worths .ensures))
-
-mul-bound : tie.Need-mul-bound
-mul-bound c = search needs
-
-array-read-bound : tie.Need-array-read-bound
-array-read-bound c = search needs
+head-worth-requires : tie.Need-head-worth-requires
+head-worth-requires c κs = (c .before .before .before .before .before .before .pre .1, c .before .before .before .before .before .before .pre .4, c .before .before .before .before .before .before .pre .5, tamed (c .before .before .before .before .before .before .args .sizes) (c .before .before .before .before .before .before .pre .1) _ (c .before .before .before .before .before .before .pre .4) _ (c .before .before .before .before .before .before .pre .0) (c .before .before .before .before .before .before .args .stack .now) (c .before .before .before .before .before .before .pre .2) (c .before .before .before .before .before .before .pre .3) _ (c .before .worths .ensures))
 
 returns : tie.Need-returns
 returns c =
     λ g e.
-    is-lost g (c .before .before .before .before .before .before .before .args .sizes) e _ _ _ (c .before .before .before .before .before .before .before .pre .2) _ (bound-coded (c .before .before .before .before .before .before .before .args .sizes) (c .before .before .before .before .before .before .before .pre .1) _ (c .before .before .before .before .before .before .before .pre .4) _ (c .before .before .before .before .before .before .before .pre .0) (c .before .before .before .before .before .before .before .args .stack .now) (c .before .before .before .before .before .before .before .pre .2) (c .before .before .before .before .before .before .before .pre .3) _ (c .before .before .worths .ensures) _ (c .before .letter-step .ensures)) (bound-low (c .before .before .before .before .before .before .before .args .sizes) (c .before .before .before .before .before .before .before .pre .1) _ (c .before .before .before .before .before .before .before .pre .4) _ (c .before .before .before .before .before .before .before .pre .0) (c .before .before .before .before .before .before .before .args .stack .now) (c .before .before .before .before .before .before .before .pre .2) (c .before .before .before .before .before .before .before .pre .3) _ (c .before .before .worths .ensures))
+    is-lost g (c .before .before .before .before .before .before .before .before .args .sizes) e _ _ _ (c .before .before .before .before .before .before .before .before .pre .2) _ (bound-coded (c .before .before .before .before .before .before .before .before .args .sizes) (c .before .before .before .before .before .before .before .before .pre .1) _ (c .before .before .before .before .before .before .before .before .pre .4) _ (c .before .before .before .before .before .before .before .before .pre .0) (c .before .before .before .before .before .before .before .before .args .stack .now) (c .before .before .before .before .before .before .before .before .pre .2) (c .before .before .before .before .before .before .before .before .pre .3) _ (c .before .before .before .worths .ensures) _ (c .before .head-worth .ensures)) (bound-low (c .before .before .before .before .before .before .before .before .args .sizes) (c .before .before .before .before .before .before .before .before .pre .1) _ (c .before .before .before .before .before .before .before .before .pre .4) _ (c .before .before .before .before .before .before .before .before .pre .0) (c .before .before .before .before .before .before .before .before .args .stack .now) (c .before .before .before .before .before .before .before .before .pre .2) (c .before .before .before .before .before .before .before .before .pre .3) _ (c .before .before .before .worths .ensures))
     (c .if1 .taken)
 
 returns-2 : tie.Need-returns-2
 returns-2 c =
     λ g e.
-    is-over g (c .before .before .before .before .before .before .before .before .args .sizes) e _ _ _ (c .before .before .before .before .before .before .before .before .pre .2) _ (bound-coded (c .before .before .before .before .before .before .before .before .args .sizes) (c .before .before .before .before .before .before .before .before .pre .1) _ (c .before .before .before .before .before .before .before .before .pre .4) _ (c .before .before .before .before .before .before .before .before .pre .0) (c .before .before .before .before .before .before .before .before .args .stack .now) (c .before .before .before .before .before .before .before .before .pre .2) (c .before .before .before .before .before .before .before .before .pre .3) _ (c .before .before .before .worths .ensures) _ (c .before .before .letter-step .ensures)) (bound-low (c .before .before .before .before .before .before .before .before .args .sizes) (c .before .before .before .before .before .before .before .before .pre .1) _ (c .before .before .before .before .before .before .before .before .pre .4) _ (c .before .before .before .before .before .before .before .before .pre .0) (c .before .before .before .before .before .before .before .before .args .stack .now) (c .before .before .before .before .before .before .before .before .pre .2) (c .before .before .before .before .before .before .before .before .pre .3) _ (c .before .before .before .worths .ensures))
+    is-over g (c .before .before .before .before .before .before .before .before .before .args .sizes) e _ _ _ (c .before .before .before .before .before .before .before .before .before .pre .2) _ (bound-coded (c .before .before .before .before .before .before .before .before .before .args .sizes) (c .before .before .before .before .before .before .before .before .before .pre .1) _ (c .before .before .before .before .before .before .before .before .before .pre .4) _ (c .before .before .before .before .before .before .before .before .before .pre .0) (c .before .before .before .before .before .before .before .before .before .args .stack .now) (c .before .before .before .before .before .before .before .before .before .pre .2) (c .before .before .before .before .before .before .before .before .before .pre .3) _ (c .before .before .before .before .worths .ensures) _ (c .before .before .head-worth .ensures)) (bound-low (c .before .before .before .before .before .before .before .before .before .args .sizes) (c .before .before .before .before .before .before .before .before .before .pre .1) _ (c .before .before .before .before .before .before .before .before .before .pre .4) _ (c .before .before .before .before .before .before .before .before .before .pre .0) (c .before .before .before .before .before .before .before .before .before .args .stack .now) (c .before .before .before .before .before .before .before .before .before .pre .2) (c .before .before .before .before .before .before .before .before .before .pre .3) _ (c .before .before .before .before .worths .ensures))
     (c .before .if1 .left)
     (c .if2 .taken)
 
 returns-3 : tie.Need-returns-3
 returns-3 c =
     λ g e.
-    is-target g (c .before .before .before .before .before .before .before .before .before .args .sizes) e _ _ _ (c .before .before .before .before .before .before .before .before .before .pre .2) _ (bound-coded (c .before .before .before .before .before .before .before .before .before .args .sizes) (c .before .before .before .before .before .before .before .before .before .pre .1) _ (c .before .before .before .before .before .before .before .before .before .pre .4) _ (c .before .before .before .before .before .before .before .before .before .pre .0) (c .before .before .before .before .before .before .before .before .before .args .stack .now) (c .before .before .before .before .before .before .before .before .before .pre .2) (c .before .before .before .before .before .before .before .before .before .pre .3) _ (c .before .before .before .before .worths .ensures) _ (c .before .before .before .letter-step .ensures)) (bound-low (c .before .before .before .before .before .before .before .before .before .args .sizes) (c .before .before .before .before .before .before .before .before .before .pre .1) _ (c .before .before .before .before .before .before .before .before .before .pre .4) _ (c .before .before .before .before .before .before .before .before .before .pre .0) (c .before .before .before .before .before .before .before .before .before .args .stack .now) (c .before .before .before .before .before .before .before .before .before .pre .2) (c .before .before .before .before .before .before .before .before .before .pre .3) _ (c .before .before .before .before .worths .ensures))
+    is-target g (c .before .before .before .before .before .before .before .before .before .before .args .sizes) e _ _ _ (c .before .before .before .before .before .before .before .before .before .before .pre .2) _ (bound-coded (c .before .before .before .before .before .before .before .before .before .before .args .sizes) (c .before .before .before .before .before .before .before .before .before .before .pre .1) _ (c .before .before .before .before .before .before .before .before .before .before .pre .4) _ (c .before .before .before .before .before .before .before .before .before .before .pre .0) (c .before .before .before .before .before .before .before .before .before .before .args .stack .now) (c .before .before .before .before .before .before .before .before .before .before .pre .2) (c .before .before .before .before .before .before .before .before .before .before .pre .3) _ (c .before .before .before .before .before .worths .ensures) _ (c .before .before .before .head-worth .ensures)) (bound-low (c .before .before .before .before .before .before .before .before .before .before .args .sizes) (c .before .before .before .before .before .before .before .before .before .before .pre .1) _ (c .before .before .before .before .before .before .before .before .before .before .pre .4) _ (c .before .before .before .before .before .before .before .before .before .before .pre .0) (c .before .before .before .before .before .before .before .before .before .before .args .stack .now) (c .before .before .before .before .before .before .before .before .before .before .pre .2) (c .before .before .before .before .before .before .before .before .before .before .pre .3) _ (c .before .before .before .before .before .worths .ensures))
     (c .before .before .if1 .left)
     (c .before .if2 .left)
     (c .if3 .taken)
@@ -58,7 +50,7 @@ has-state-requires c κs = search needs
 returns-4 : tie.Need-returns-4
 returns-4 c =
     λ g e.
-    is-abelard g (c .before .before .before .before .before .before .before .before .before .before .before .args .sizes) e _ _ _ (c .before .before .before .before .before .before .before .before .before .before .before .pre .2) _ (bound-coded (c .before .before .before .before .before .before .before .before .before .before .before .args .sizes) (c .before .before .before .before .before .before .before .before .before .before .before .pre .1) _ (c .before .before .before .before .before .before .before .before .before .before .before .pre .4) _ (c .before .before .before .before .before .before .before .before .before .before .before .pre .0) (c .before .before .before .before .before .before .before .before .before .before .before .args .stack .now) (c .before .before .before .before .before .before .before .before .before .before .before .pre .2) (c .before .before .before .before .before .before .before .before .before .before .before .pre .3) _ (c .before .before .before .before .before .before .worths .ensures) _ (c .before .before .before .before .before .letter-step .ensures)) (bound-low (c .before .before .before .before .before .before .before .before .before .before .before .args .sizes) (c .before .before .before .before .before .before .before .before .before .before .before .pre .1) _ (c .before .before .before .before .before .before .before .before .before .before .before .pre .4) _ (c .before .before .before .before .before .before .before .before .before .before .before .pre .0) (c .before .before .before .before .before .before .before .before .before .before .before .args .stack .now) (c .before .before .before .before .before .before .before .before .before .before .before .pre .2) (c .before .before .before .before .before .before .before .before .before .before .before .pre .3) _ (c .before .before .before .before .before .before .worths .ensures))
+    is-abelard g (c .before .before .before .before .before .before .before .before .before .before .before .before .args .sizes) e _ _ _ (c .before .before .before .before .before .before .before .before .before .before .before .before .pre .2) _ (bound-coded (c .before .before .before .before .before .before .before .before .before .before .before .before .args .sizes) (c .before .before .before .before .before .before .before .before .before .before .before .before .pre .1) _ (c .before .before .before .before .before .before .before .before .before .before .before .before .pre .4) _ (c .before .before .before .before .before .before .before .before .before .before .before .before .pre .0) (c .before .before .before .before .before .before .before .before .before .before .before .before .args .stack .now) (c .before .before .before .before .before .before .before .before .before .before .before .before .pre .2) (c .before .before .before .before .before .before .before .before .before .before .before .before .pre .3) _ (c .before .before .before .before .before .before .before .worths .ensures) _ (c .before .before .before .before .before .head-worth .ensures)) (bound-low (c .before .before .before .before .before .before .before .before .before .before .before .before .args .sizes) (c .before .before .before .before .before .before .before .before .before .before .before .before .pre .1) _ (c .before .before .before .before .before .before .before .before .before .before .before .before .pre .4) _ (c .before .before .before .before .before .before .before .before .before .before .before .before .pre .0) (c .before .before .before .before .before .before .before .before .before .before .before .before .args .stack .now) (c .before .before .before .before .before .before .before .before .before .before .before .before .pre .2) (c .before .before .before .before .before .before .before .before .before .before .before .before .pre .3) _ (c .before .before .before .before .before .before .before .worths .ensures))
     (c .before .before .before .before .if1 .left)
     (c .before .before .before .if2 .left)
     (c .before .before .if3 .left)
@@ -67,8 +59,7 @@ returns-4 c =
     (c .if4 .taken)
 
 least-rule-requires : tie.Need-least-rule-requires
-least-rule-requires c κs =
-    (c .before .before .before .before .before .before .before .before .before .before .before .pre .1, c .before .before .before .before .before .before .before .before .before .before .before .pre .4, tamed (c .before .before .before .before .before .before .before .before .before .before .before .args .sizes) (c .before .before .before .before .before .before .before .before .before .before .before .pre .1) _ (c .before .before .before .before .before .before .before .before .before .before .before .pre .4) _ (c .before .before .before .before .before .before .before .before .before .before .before .pre .0) (c .before .before .before .before .before .before .before .before .before .before .before .args .stack .now) (c .before .before .before .before .before .before .before .before .before .before .before .pre .2) (c .before .before .before .before .before .before .before .before .before .before .before .pre .3) _ (c .before .before .before .before .before .before .worths .ensures))
+least-rule-requires c κs = (c .before .before .before .before .before .before .before .before .before .before .before .before .before .pre .1, c .before .before .before .before .before .before .before .before .before .before .before .before .before .pre .4, c .before .before .before .before .before .before .before .before .before .before .before .before .before .pre .5, tamed (c .before .before .before .before .before .before .before .before .before .before .before .before .before .args .sizes) (c .before .before .before .before .before .before .before .before .before .before .before .before .before .pre .1) _ (c .before .before .before .before .before .before .before .before .before .before .before .before .before .pre .4) _ (c .before .before .before .before .before .before .before .before .before .before .before .before .before .pre .0) (c .before .before .before .before .before .before .before .before .before .before .before .before .before .args .stack .now) (c .before .before .before .before .before .before .before .before .before .before .before .before .before .pre .2) (c .before .before .before .before .before .before .before .before .before .before .before .before .before .pre .3) _ (c .before .before .before .before .before .before .before .before .worths .ensures))
 
 rule-number-requires : tie.Need-rule-number-requires
 rule-number-requires c κs = search needs
@@ -76,18 +67,18 @@ rule-number-requires c κs = search needs
 returns-5 : tie.Need-returns-5
 returns-5 c =
     λ g e.
-    is-eloise g (c .before .before .before .before .before .before .before .before .before .before .before .before .before .args .sizes) e _ _ _ (c .before .before .before .before .before .before .before .before .before .before .before .before .before .pre .2) _ (bound-coded (c .before .before .before .before .before .before .before .before .before .before .before .before .before .args .sizes) (c .before .before .before .before .before .before .before .before .before .before .before .before .before .pre .1) _ (c .before .before .before .before .before .before .before .before .before .before .before .before .before .pre .4) _ (c .before .before .before .before .before .before .before .before .before .before .before .before .before .pre .0) (c .before .before .before .before .before .before .before .before .before .before .before .before .before .args .stack .now) (c .before .before .before .before .before .before .before .before .before .before .before .before .before .pre .2) (c .before .before .before .before .before .before .before .before .before .before .before .before .before .pre .3) _ (c .before .before .before .before .before .before .before .before .worths .ensures) _ (c .before .before .before .before .before .before .before .letter-step .ensures)) (bound-low (c .before .before .before .before .before .before .before .before .before .before .before .before .before .args .sizes) (c .before .before .before .before .before .before .before .before .before .before .before .before .before .pre .1) _ (c .before .before .before .before .before .before .before .before .before .before .before .before .before .pre .4) _ (c .before .before .before .before .before .before .before .before .before .before .before .before .before .pre .0) (c .before .before .before .before .before .before .before .before .before .before .before .before .before .args .stack .now) (c .before .before .before .before .before .before .before .before .before .before .before .before .before .pre .2) (c .before .before .before .before .before .before .before .before .before .before .before .before .before .pre .3) _ (c .before .before .before .before .before .before .before .before .worths .ensures))
-    (c .before .before .before .before .before .before .if1 .left)
-    (c .before .before .before .before .before .if2 .left)
-    (c .before .before .before .before .if3 .left)
+    is-eloise g (c .before .before .before .before .before .before .before .before .before .before .before .before .before .before .before .args .sizes) e _ _ _ (c .before .before .before .before .before .before .before .before .before .before .before .before .before .before .before .pre .2) _ (bound-coded (c .before .before .before .before .before .before .before .before .before .before .before .before .before .before .before .args .sizes) (c .before .before .before .before .before .before .before .before .before .before .before .before .before .before .before .pre .1) _ (c .before .before .before .before .before .before .before .before .before .before .before .before .before .before .before .pre .4) _ (c .before .before .before .before .before .before .before .before .before .before .before .before .before .before .before .pre .0) (c .before .before .before .before .before .before .before .before .before .before .before .before .before .before .before .args .stack .now) (c .before .before .before .before .before .before .before .before .before .before .before .before .before .before .before .pre .2) (c .before .before .before .before .before .before .before .before .before .before .before .before .before .before .before .pre .3) _ (c .before .before .before .before .before .before .before .before .before .before .worths .ensures) _ (c .before .before .before .before .before .before .before .before .head-worth .ensures)) (bound-low (c .before .before .before .before .before .before .before .before .before .before .before .before .before .before .before .args .sizes) (c .before .before .before .before .before .before .before .before .before .before .before .before .before .before .before .pre .1) _ (c .before .before .before .before .before .before .before .before .before .before .before .before .before .before .before .pre .4) _ (c .before .before .before .before .before .before .before .before .before .before .before .before .before .before .before .pre .0) (c .before .before .before .before .before .before .before .before .before .before .before .before .before .before .before .args .stack .now) (c .before .before .before .before .before .before .before .before .before .before .before .before .before .before .before .pre .2) (c .before .before .before .before .before .before .before .before .before .before .before .before .before .before .before .pre .3) _ (c .before .before .before .before .before .before .before .before .before .before .worths .ensures))
+    (c .before .before .before .before .before .before .before .if1 .left)
+    (c .before .before .before .before .before .before .if2 .left)
+    (c .before .before .before .before .before .if3 .left)
     _
-    (c .before .before .before .has-state .ensures)
-    (c .before .before .if4 .left)
+    (c .before .before .before .before .has-state .ensures)
+    (c .before .before .before .if4 .left)
     _
-    (c .before .least-rule .ensures _ (stands (c .before .before .before .before .before .before .before .before .before .before .before .before .before .args .sizes) (c .before .before .before .before .before .before .before .before .before .before .before .before .before .pre .1) _ (c .before .before .before .before .before .before .before .before .before .before .before .before .before .pre .4) _ (c .before .before .before .before .before .before .before .before .before .before .before .before .before .pre .0) (c .before .before .before .before .before .before .before .before .before .before .before .before .before .args .stack .now) (c .before .before .before .before .before .before .before .before .before .before .before .before .before .pre .2) (c .before .before .before .before .before .before .before .before .before .before .before .before .before .pre .3) _ (c .before .before .before .before .before .before .before .before .worths .ensures)) (length-worths _ _) (low-rest (c .before .before .before .before .before .before .before .before .before .before .before .before .before .args .sizes) (c .before .before .before .before .before .before .before .before .before .before .before .before .before .pre .1) _ (c .before .before .before .before .before .before .before .before .before .before .before .before .before .pre .4) _ (c .before .before .before .before .before .before .before .before .before .before .before .before .before .pre .0) (c .before .before .before .before .before .before .before .before .before .before .before .before .before .args .stack .now) (c .before .before .before .before .before .before .before .before .before .before .before .before .before .pre .2) (c .before .before .before .before .before .before .before .before .before .before .before .before .before .pre .3) _ (c .before .before .before .before .before .before .before .before .worths .ensures)) (omega (arith, c .before .before .before .before .before .if2 .left)))
+    (rule-least (c .before .before .before .before .before .before .before .before .before .before .before .before .before .before .before .args .sizes) (c .before .before .before .before .before .before .before .before .before .before .before .before .before .before .before .pre .1) _ (c .before .before .before .before .before .before .before .before .before .before .before .before .before .before .before .pre .4) _ (c .before .before .before .before .before .before .before .before .before .before .before .before .before .before .before .pre .0) (c .before .before .before .before .before .before .before .before .before .before .before .before .before .before .before .args .stack .now) (c .before .before .before .before .before .before .before .before .before .before .before .before .before .before .before .pre .2) (c .before .before .before .before .before .before .before .before .before .before .before .before .before .before .before .pre .3) _ (c .before .before .before .before .before .before .before .before .before .before .worths .ensures) (λ k. c .before .before .before .before .before .before .before .before .before .before .before .before .before .before .shared-slice-known .given k .fits) _ (omega (arith, c .before .before .before .before .before .before .if2 .left)) _ (c .before .least-rule .ensures))
     _
     (c .rule-number .ensures)
-    (field-small _ (λ k. c .before .before .before .before .before .before .before .before .before .before .before .before .shared-slice-known .given k .fits))
+    (field-small _ (λ k. c .before .before .before .before .before .before .before .before .before .before .before .before .before .before .shared-slice-known .given k .fits))
 
 pub verdict-on-spec : {M : Type 1} → statement M
 verdict-on-spec =
@@ -98,9 +89,7 @@ verdict-on-spec =
     part-worths-start
     part-worths-end
     worths-requires
-    letter-step-requires
-    mul-bound
-    array-read-bound
+    head-worth-requires
     returns
     returns-2
     returns-3
