@@ -1,18 +1,19 @@
 -- The first rule of a head from a place on, and the highest state of a set.
-use Prim.Native.Nat.{ℕ, zero, suc, _+_, _*_, _-_, _/_, _%_, _^_, _<_, _≤_}
-use mathlib.Core.Path.{_≡_, refl, sym, ap, _∙_}
+use Prim.Native.Nat.{ℕ, suc, _+_, _*_, _-_, _/_, _%_, _^_, _<_, _≤_}
+use mathlib.Core.Path.{_≡_}
 use mathlib.Core.Logic.{⊎-elim}
 use mathlib.Core.Bool.{true, false}
 use mathlib.Core.List.{List}
 use native.Mathlib.Omega.{arith}
-use native.Mathlib.Nat.{one-mul, mod-eq-of-lt}
+use native.Mathlib.Nat.{one-mul, mod-eq-of-lt, div-lt-iff-lt-mul, pow-succ'}
 use lib.Pow.{pow-lt, pow-pos}
-use borrow.Author.Tests.{eq-eqb, ne-eqb}
+use lib.Count.{leadingZeros, leading-top}
+use borrow.Author.Tests.{eq-eqb}
 use Rattle.game.specs.Sets.{has}
 use Rattle.game.specs.Game.{ofHead}
 use Rattle.game.specs.Stored.{ruleAt}
-use Rattle.game.specs.ListLaws.{below-suc, clash}
-use Rattle.game.specs.SetLaws.{has-above, has-below, member-of}
+use Rattle.game.specs.ListLaws.{below-suc}
+use Rattle.game.specs.SetLaws.{has-above, none-has}
 use Rattle.solver.specs.Jobs.{NextRule, Highest}
 
 pub record Skipping (rules : List ℕ) (end from p a r : ℕ) : Type 0 where
@@ -45,48 +46,33 @@ misses rules end from p a r s h =
       found = λ l. absurd (omega arith);
     }
 
--- no state above s is in the set
-pub record Falling (set s : ℕ) : Type 0 where
-  pub small : s < 32
-  pub above : (k : ℕ) → s < k → k < 32 → has set k ≡ false
+-- a number between a power of two and the next one has that digit
+digit : (set j : ℕ) → 2 ^ j ≤ set → set < 2 ^ suc j → set / 2 ^ j % 2 ≡ 1
+digit set j low high =
+    let two : 2 ^ suc j ≡ 2 * 2 ^ j = pow-succ' 2 j in
+    let less : set / 2 ^ j < 2 = div-lt-iff-lt-mul (pow-pos j) .1 (rw two at high) in
+    let more : set / 2 ^ j < 1 → ⊥ = λ l. (omega (arith, div-lt-iff-lt-mul (pow-pos j) .0 l)) in
+    (omega (arith, less, more))
 
-pub top : (set : ℕ) → Falling set 31
-top set = record { small = omega arith; above = λ k l m. absurd (omega arith) }
-
-pub falls : (set s : ℕ) → Falling set s → 0 < s → (set / 2 ^ s % 2 ≡ 1 → ⊥) → Falling set (s - 1)
+-- the highest digit of a set, by the zeros above it
+pub highest-of : (set : ℕ) → set < 2 ^ 32 → 0 < set → Highest set (31 - leadingZeros 32 set)
 unfolding has
-falls set s f h n =
-    record {
-      small = omega (arith, f .small);
-      above =
-          λ k l m.
-          ⊎-elim
-          (λ (i : s < k). f .above k i m)
-          (λ (i : s ≡ k). rw (← i) (ne-eqb (set / 2 ^ s % 2) 1 n))
-          (below-suc (omega arith));
-    }
+highest-of set small some =
+    let t = leading-top 32 set some small in
+    let j = t .0 in
+    let same : 31 - leadingZeros 32 set ≡ j = omega (arith, t .1) in
+    rw same
+    (record {
+      small = omega (arith, t .1);
+      member = λ p. eq-eqb (set / 2 ^ j % 2) 1 (digit set j (t .2) (t .3));
+      above = λ k l m. has-above (suc j) set k (t .3) (omega arith);
+    })
 
-pub stops : (set s : ℕ) → Falling set s → set / 2 ^ s % 2 ≡ 1 → Highest set s
-unfolding has
-stops set s f y =
-    record { small = f .small; member = λ h. eq-eqb (set / 2 ^ s % 2) 1 y; above = f .above }
+pub zeros-few : (set : ℕ) → set < 2 ^ 32 → 0 < set → leadingZeros 32 set ≤ 31
+zeros-few set small some = omega (arith, leading-top 32 set some small .1)
 
--- none but state 0 is left
-pub last : (set s : ℕ) → set < 2 ^ 32 → Falling set s → s ≤ 0 → Highest set 0
-last set s small f h =
-    record {
-      small = omega arith;
-      member = λ p. only p;
-      above = λ k l m. f .above k (omega arith) m;
-    }
-  where
-    only : 0 < set → has set 0 ≡ true
-    only p =
-        let m = member-of 32 set small p in
-        ⊎-elim
-        (λ (i : 0 < m .0). clash (m .2) (f .above (m .0) (omega arith) (m .1)))
-        (λ (i : 0 ≡ m .0). rw i (m .2))
-        (below-suc (omega arith))
+pub highest-none : Highest 0 0
+highest-none = record { small = omega arith; member = λ p. absurd (omega arith); above = λ k l m. none-has k }
 
 pub shifted-one : (s : ℕ) → s < 32 → 1 * 2 ^ s % 4294967296 ≡ 2 ^ s
 shifted-one s h = rw one-mul (mod-eq-of-lt (pow-lt {j = 32} h))

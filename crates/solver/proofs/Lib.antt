@@ -11,3 +11,8 @@ pub mod Rounding
 pub mod RoundTurns
 pub mod Answers
 pub mod HeadPlaces
+pub mod PlacesKept
+pub mod Skipping
+pub mod Levels
+pub mod Depth
+pub mod Walking

@@ -1,25 +1,27 @@
 -- What the turns of a round hand on: a run of a rule, the job of a rule and its runs, the rules of a head, the heads.
-use Prim.Native.Nat.{ℕ, zero, suc, _+_, _*_, _/_, _%_, _<_, _≤_}
+use Prim.Native.Nat.{ℕ, zero, suc, _+_, _*_, _-_, _/_, _%_, _<_, _≤_}
 use native.Mathlib.Omega.{arith}
 use native.Mathlib.Nat.{mul-le-mul-right, mod-lt, div-lt-iff-lt-mul}
 use native.Mathlib.Numerals.{add-one}
 use mathlib.Core.Path.{_≡_, refl, sym, ap, ap₂, _∙_}
 use mathlib.Core.Logic.{inl, inr, ⊎-elim}
-use mathlib.Core.Bool.{true, false, cond}
+use mathlib.Core.Bool.{Bool, true, false, cond}
 use mathlib.Core.List.{List, [], _++_, map, flatMap}
 use lib.ListN.{length, getD, drop, replicate}
 use lib.Pow.{pow-pos}
-use borrow.Author.Tests.{eq-eqb, ne-eqb}
+use lib.Dec.{eqb, ltb}
+use borrow.Author.Tests.{eq-eqb, ne-eqb, eqb-true, eqb-false, ltb-true, ltb-false}
 use Rattle.game.specs.Sets.{has, single, union}
-use Rattle.game.specs.Game.{PushdownGame, ofHead}
+use Rattle.game.specs.Game.{Rule, PushdownGame, ofHead}
 use Rattle.game.specs.Held.{Held, Safe}
-use Rattle.game.specs.GoodGame.{Good}
+use Rattle.game.specs.GoodGame.{Good, GoodRule}
 use Rattle.game.specs.Stored.{ruleAt}
 use Rattle.game.specs.StoredLaws.{noRule}
 use Rattle.game.specs.ListLaws.{test}
 use Rattle.game.specs.Win.{isAbelard}
 use Rattle.game.specs.declared.game.Sizes.{Sizes}
 use Rattle.table.specs.Table.{Entry}
+use Rattle.judge.specs.Worth.{entryOfHead}
 use Rattle.solver.specs.Rounds.{below, entryAt, headCandidates, candidates}
 use Rattle.solver.specs.RoundLaws.{AllRanged}
 use Rattle.solver.specs.UnionLaws.{none-union}
@@ -27,9 +29,12 @@ use Rattle.solver.specs.Enumeration.{map-flatMap}
 use Rattle.solver.specs.Growing.{Growing, growing, partly}
 use Rattle.solver.specs.Filled.{Stored, Filled}
 use Rattle.solver.specs.Jobs.{Able, Stands, Entered, Finished, Whole, Memoed, NextRule, endOf, fieldOf, subRuns, beginRuns, tagOf}
-use Rattle.solver.specs.RoundJobs.{jobOf, runsOf, runRuns, Blank}
+use Rattle.solver.specs.Places.{PlacedHead, PlacedTo, Placing}
+use Rattle.solver.specs.InsertLaws.{noEntry, getD-in}
+use Rattle.solver.specs.RoundJobs.{jobOf, runsOf, runRuns, Blank, RunsStart, RunsEnd}
 use Rattle.solver.specs.RoundJobLaws.{jobsFrom, jobAt, jobs-are, next-same, none-after, job-first, runs-by-place, from-number, from-last, pairs-are, run-pops, run-writes}
 use Rattle.solver.specs.declared.runs.Job.{Job}
+use Rattle.solver.proofs.HeadPlaces.{before-head, after-head}
 use Rattle.solver.proofs.Parts.{rule-at}
 use Rattle.solver.proofs.Turns.{to-is, count-is, to-small}
 use Rattle.solver.proofs.Rounding.{Entries, runAt, runsFrom, rulesFrom, headsFrom, Setting, Adds, Turning, goes-on}
@@ -38,6 +43,22 @@ use Rattle.solver.proofs.Rounding.{Entries, runAt, runsFrom, rulesFrom,
 pub runs-written : (rules : List ℕ) (r old : ℕ) → (getD rules (r * 6 + 3) 0 ≡ 0 → ⊥) → runsOf rules r old ≡ old
 unfolding runsOf
 runs-written rules r old n = rw (ne-eqb (getD rules (r * 6 + 3) 0) 0 n)
+
+pub runs-popped : (rules : List ℕ) (r old : ℕ) → getD rules (r * 6 + 3) 0 ≡ 0 → runsOf rules r old ≡ 1
+unfolding runsOf
+runs-popped rules r old e = rw (eq-eqb (getD rules (r * 6 + 3) 0) 0 e)
+
+-- runs that end where the code ends them are among them
+pub runs-within : (rules places : List ℕ) (r old end : ℕ) → RunsEnd rules places r old end → end ≤ runsOf rules r old
+runs-within rules places r old end s =
+    ⊎-elim
+    (λ (t : eqb (getD rules (r * 6 + 3) 0) 0 ≡ true).
+    let z = eqb-true (getD rules (r * 6 + 3) 0) 0 t in
+    omega (arith, runs-popped rules r old z, s .one z))
+    (λ (t : eqb (getD rules (r * 6 + 3) 0) 0 ≡ false).
+    let some = eqb-false (getD rules (r * 6 + 3) 0) 0 t in
+    omega (arith, runs-written rules r old some, s .within some))
+    (test (eqb (getD rules (r * 6 + 3) 0) 0))
 
 -- and the runs at a place, as the rule's bytes say
 module _ (g : PushdownGame) (old : List Entry) (birthdate n : ℕ) (job : Job) (rules work words : List ℕ) (count : ℕ) (memo : List ℕ) (s : Growing) (h : Entered g old birthdate n job rules work words count memo s) (r : ℕ) (l : r < job .end) where
@@ -54,7 +75,7 @@ module _ (g : PushdownGame) (old : List Entry) (birthdate n : ℕ) (job : Job) (
         ∙ none-union (single (getD rules (r * 6 + 2) 0))
         ∙ ap single goes-to
 
-    pub passed-some : 0 < 0 + passed
+    pub passed-some : 0 < passed
     passed-some = omega (arith, passed-is, pow-pos (getD (g .rules) r noRule .to))
 
     pub popped : getD rules (r * 6 + 3) 0 ≡ 0 → (i : ℕ)
@@ -93,6 +114,20 @@ runs-split birthdate job r runs i l g es = rw (add-one i) (from-number (λ j. ru
 pub runs-none : (birthdate : ℕ) (job : Job) (r runs i : ℕ) → runs ≤ i → (g : PushdownGame) (es : List Entry) → runsFrom birthdate job r runs i g es ≡ []
 unfolding runsFrom
 runs-none birthdate job r runs i l g es = from-last (λ j. runAt birthdate job r j g es) i runs l
+
+-- runs that give nothing are passed over
+runs-skip : (birthdate : ℕ) (job : Job) (r runs : ℕ) (g : PushdownGame) (es : List Entry) (m i : ℕ) → i + m ≤ runs
+    → ((k : ℕ) → i ≤ k → k < i + m → runAt birthdate job r k g es ≡ [])
+    → runsFrom birthdate job r runs i g es ≡ runsFrom birthdate job r runs (i + m) g es
+runs-skip birthdate job r runs g es zero i l none =
+    let same : i + zero ≡ i = omega arith in
+    rw same refl
+runs-skip birthdate job r runs g es (suc m) i l none =
+    let same : i + suc m ≡ i + 1 + m = omega arith in
+    rw same
+    (runs-split birthdate job r runs i (omega arith) g es
+    ∙ ap (_++ runsFrom birthdate job r runs (i + 1) g es) (none i (omega arith) (omega arith))
+    ∙ runs-skip birthdate job r runs g es m (i + 1) (omega arith) (λ k a b. none k (omega arith) (omega arith)))
 
 -- What the code has at a rule: it is one of the head (p, a), and its job and its runs are made.
 pub record AtRule (sizes : Sizes) (rules : List ℕ) (old birthdate p a r : ℕ) (job : Job) (runs : ℕ) : Type 0 where
@@ -143,7 +178,7 @@ at-able sizes rules work old birthdate p a r job safe fits l made =
       count,
     )
 
-module _ (g : PushdownGame) (es : List Entry) (n : ℕ) (sizes : Sizes) (rules work : List ℕ) (old : ℕ) (h : Setting g es n sizes rules work old) (birthdate : ℕ) where
+module _ (g : PushdownGame) (es : List Entry) (n : ℕ) (sizes : Sizes) (rules places work : List ℕ) (old : ℕ) (h : Setting g es n sizes rules places work old) (birthdate : ℕ) where
   control-is : sizes .control ≡ g .control
   control-is = ap (λ (x : Sizes). x .control) (h .held .sized)
 
@@ -220,6 +255,71 @@ module _ (g : PushdownGame) (es : List Entry) (n : ℕ) (sizes : Sizes) (rules w
         (runs-by-place g es birthdate p a rules (h .held .slack) (h .held .stands) (endOf g p r) r end-within after-rule (at .hit))
         ∙ map-flatMap (entryAt p a birthdate (fieldOf g p r)) (runRuns g es p a (endOf g p r) r) (below (runsOf rules r (length es))))
 
+    rule-bytes : ruleAt rules (r * 6) (getD (g .rules) r noRule .number) ≡ getD (g .rules) r noRule
+    rule-bytes = rule-at rules (h .held .slack) (g .rules) (h .held .stands) r (omega (arith, rules-are, at .within))
+
+    good-rule : GoodRule (g .control) (g .letters) (getD (g .rules) r noRule)
+    good-rule = h .good .ranged .rule _ (getD-in noRule (g .rules) r (omega (arith, rules-are, at .within)))
+
+    goes-above : PlacedHead work old places (getD rules (r * 6 + 2) 0) (getD rules (r * 6 + 4) 0)
+    goes-above =
+        rw (ap (λ (x : Rule). x .to) rule-bytes, ap (λ (x : Rule). x .above) rule-bytes)
+        (h .placing _ _ (omega (arith, good-rule .to, h .good .ranged .control)) (good-rule .above))
+
+    -- a run that begins with an entry of another head gives nothing
+    run-none : (getD rules (r * 6 + 3) 0 ≡ 0 → ⊥) → (k : ℕ)
+        → entryOfHead (getD rules (r * 6 + 2) 0) (getD rules (r * 6 + 4) 0) (getD es k noEntry) ≡ false → runAt birthdate job r k g es ≡ []
+    unfolding beginRuns
+    run-none some k other =
+        ap (map (entryAt (job .state) (job .letter) birthdate (job .field)))
+        (run-writes g es (job .state) (job .letter) (job .end) r k
+        (ne-eqb (getD (g .rules) r noRule .count) 0 (λ e. some (ap (λ (x : Rule). x .count) rule-bytes ∙ e)))
+        ∙ ap
+        (λ (b : Bool).
+        cond b
+        (cond (eqb (getD (g .rules) r noRule .count) 1) (subRuns g es (job .state) (job .letter) (job .end) r 0 (union 0 (getD es k noEntry .set)))
+        (subRuns g es (job .state) (job .letter) (job .end) r (getD es k noEntry .set) 0))
+        [])
+        (rw (ap (λ (x : Rule). x .to) rule-bytes, ap (λ (x : Rule). x .above) rule-bytes) at other))
+
+    -- so its runs begin where the entries of the head that it goes to do, and end there
+    pub runs-begin : (start : ℕ) → RunsStart rules places r old start → runsFrom birthdate job r runs 0 g es ≡ runsFrom birthdate job r runs start g es
+    runs-begin start s =
+        ⊎-elim
+        (λ (t : eqb (getD rules (r * 6 + 3) 0) 0 ≡ true). rw (s .first (eqb-true (getD rules (r * 6 + 3) 0) 0 t)) refl)
+        (λ (t : eqb (getD rules (r * 6 + 3) 0) 0 ≡ false).
+        let some = eqb-false (getD rules (r * 6 + 3) 0) 0 t in
+        let sum : 0 + start ≡ start = omega arith in
+        rw sum at
+        (runs-skip birthdate job r runs g es start 0 (omega (arith, at .so-many, runs-written rules r old some, s .within))
+        (λ k a b.
+        run-none some k (before-head n work old es (h .stored) (getD rules (r * 6 + 2) 0) (getD rules (r * 6 + 4) 0) start (s .placed some work goes-above) k (omega arith)))))
+        (test (eqb (getD rules (r * 6 + 3) 0) 0))
+
+    pub runs-ended : (end : ℕ) → RunsEnd rules places r old end → (i : ℕ) → end ≤ i → runsFrom birthdate job r runs i g es ≡ []
+    runs-ended end s i l =
+        ⊎-elim (λ (t : ltb i runs ≡ true). later (ltb-true i runs t))
+        (λ (t : ltb i runs ≡ false). runs-none birthdate job r runs i (ltb-false i runs t) g es)
+        (test (ltb i runs))
+      where
+        later : i < runs → runsFrom birthdate job r runs i g es ≡ []
+        later m =
+            ⊎-elim
+            (λ (t : eqb (getD rules (r * 6 + 3) 0) 0 ≡ true).
+            let z = eqb-true (getD rules (r * 6 + 3) 0) 0 t in
+            absurd (omega (arith, at .so-many, runs-popped rules r old z, s .one z)))
+            (λ (t : eqb (getD rules (r * 6 + 3) 0) 0 ≡ false).
+            let some = eqb-false (getD rules (r * 6 + 3) 0) 0 t in
+            let many = runs-written rules r old some in
+            let sum : i + (runs - i) ≡ runs = omega arith in
+            runs-skip birthdate job r runs g es (runs - i) i (omega arith)
+            (λ k a b.
+            run-none some k
+            (after-head n work old es (h .stored) (getD rules (r * 6 + 2) 0) (getD rules (r * 6 + 4) 0) end (s .placed some work goes-above) k (omega arith)
+            (omega (arith, at .so-many, many, h .stored .counted))))
+            ∙ runs-none birthdate job r runs (i + (runs - i)) (omega arith) g es)
+            (test (eqb (getD rules (r * 6 + 3) 0) 0))
+
     -- a head's rules from a rule on: its job's runs, then the rules after the job
     pub rules-split : rulesFrom birthdate p a r g es ≡ runsFrom birthdate job r runs 0 g es ++ rulesFrom birthdate p a (job .end) g es
     unfolding rulesFrom
@@ -261,42 +361,43 @@ module _ (g : PushdownGame) (es : List Entry) (n : ℕ) (sizes : Sizes) (rules w
     heads-all = rw (so-many, so-wide, control-is, letters-are) (sym (pairs-are (headCandidates g es birthdate) (g .letters) (g .control)))
 
 -- The turns themselves.
-module _ (sizes : Sizes) (rules work : List ℕ) (old birthdate : ℕ) where
+module _ (sizes : Sizes) (rules places work : List ℕ) (old birthdate : ℕ) where
   module _ (born : birthdate < 65536) (p a r : ℕ) (job : Job) (runs : ℕ) (at : AtRule sizes rules old birthdate p a r job runs) where
     -- what a run promises
     run-adds : (i : ℕ) {words : List ℕ} {count : ℕ} {memo words′ : List ℕ} {count′ : ℕ} {memo′ : List ℕ}
-        → ((g : PushdownGame) (es : List Entry) (b n : ℕ) (s : Growing) → Entered g es b n job rules work words count memo s → Whole g job r
+        → ((g : PushdownGame) (es : List Entry) (b n : ℕ) (s : Growing) → Entered g es b n job rules work words count memo s → Placing g work (job .count) places → Whole g job r
         → Finished g es b n (runAt b job r i g es) s words′ count′ memo′)
-        → Adds sizes rules work old birthdate (runAt birthdate job r i) words count memo words′ count′ memo′
+        → Adds sizes rules places work old birthdate (runAt birthdate job r i) words count memo words′ count′ memo′
     run-adds i promise =
         record {
           adds =
               λ g es n s h f m.
               promise g es birthdate n s
-              (record { stands = job-stands g es n sizes rules work old h birthdate p a r job runs at born; filled = f; memoed = m })
-              (job-whole g es n sizes rules work old h birthdate p a r job runs at);
+              (record { stands = job-stands g es n sizes rules places work old h birthdate p a r job runs at born; filled = f; memoed = m })
+              (rw (ap (λ (x : Job). x .count) (at .made)) (h .placing))
+              (job-whole g es n sizes rules places work old h birthdate p a r job runs at);
         }
 
     -- one run more
     pub run-turn : (i : ℕ) {words₀ : List ℕ} {count₀ : ℕ} {memo₀ words : List ℕ} {count : ℕ} {memo words′ : List ℕ} {count′ : ℕ} {memo′ : List ℕ}
-        → Turning sizes rules work old birthdate (runsFrom birthdate job r runs 0) (runsFrom birthdate job r runs i) words₀ count₀ memo₀ words count memo
+        → Turning sizes rules places work old birthdate (runsFrom birthdate job r runs 0) (runsFrom birthdate job r runs i) words₀ count₀ memo₀ words count memo
         → i < runs
-        → ((g : PushdownGame) (es : List Entry) (b n : ℕ) (s : Growing) → Entered g es b n job rules work words count memo s → Whole g job r
+        → ((g : PushdownGame) (es : List Entry) (b n : ℕ) (s : Growing) → Entered g es b n job rules work words count memo s → Placing g work (job .count) places → Whole g job r
         → Finished g es b n (runAt b job r i g es) s words′ count′ memo′)
-        → Turning sizes rules work old birthdate (runsFrom birthdate job r runs 0) (runsFrom birthdate job r runs (i + 1)) words₀ count₀ memo₀ words′ count′ memo′
+        → Turning sizes rules places work old birthdate (runsFrom birthdate job r runs 0) (runsFrom birthdate job r runs (i + 1)) words₀ count₀ memo₀ words′ count′ memo′
     run-turn i t l promise =
-        goes-on sizes rules work old birthdate t (runAt birthdate job r i) (runsFrom birthdate job r runs (i + 1))
+        goes-on sizes rules places work old birthdate t (runAt birthdate job r i) (runsFrom birthdate job r runs (i + 1))
         (λ g es n h. runs-split birthdate job r runs i l g es)
         (run-adds i promise)
 
     -- one job more
     pub job-turn : {words₀ : List ℕ} {count₀ : ℕ} {memo₀ words : List ℕ} {count : ℕ} {memo words′ : List ℕ} {count′ : ℕ} {memo′ : List ℕ}
-        → Turning sizes rules work old birthdate (rulesFrom birthdate p a 0) (rulesFrom birthdate p a r) words₀ count₀ memo₀ words count memo
-        → Adds sizes rules work old birthdate (runsFrom birthdate job r runs 0) words count memo words′ count′ memo′
-        → Turning sizes rules work old birthdate (rulesFrom birthdate p a 0) (rulesFrom birthdate p a (job .end)) words₀ count₀ memo₀ words′ count′ memo′
+        → Turning sizes rules places work old birthdate (rulesFrom birthdate p a 0) (rulesFrom birthdate p a r) words₀ count₀ memo₀ words count memo
+        → Adds sizes rules places work old birthdate (runsFrom birthdate job r runs 0) words count memo words′ count′ memo′
+        → Turning sizes rules places work old birthdate (rulesFrom birthdate p a 0) (rulesFrom birthdate p a (job .end)) words₀ count₀ memo₀ words′ count′ memo′
     job-turn t d =
-        goes-on sizes rules work old birthdate t (runsFrom birthdate job r runs 0) (rulesFrom birthdate p a (job .end))
-        (λ g es n h. rules-split g es n sizes rules work old h birthdate p a r job runs at)
+        goes-on sizes rules places work old birthdate t (runsFrom birthdate job r runs 0) (rulesFrom birthdate p a (job .end))
+        (λ g es n h. rules-split g es n sizes rules places work old h birthdate p a r job runs at)
         d
 
   -- the heads from one on
@@ -305,21 +406,32 @@ module _ (sizes : Sizes) (rules work : List ℕ) (old birthdate : ℕ) where
 
   -- one head more
   pub head-turn : (head : ℕ) {words₀ : List ℕ} {count₀ : ℕ} {memo₀ words : List ℕ} {count : ℕ} {memo words′ : List ℕ} {count′ : ℕ} {memo′ : List ℕ}
-      → Turning sizes rules work old birthdate (headsOf 0) (headsOf head) words₀ count₀ memo₀ words count memo → head < sizes .control * sizes .letters
-      → Adds sizes rules work old birthdate (rulesFrom birthdate (head / sizes .letters) (head % sizes .letters) 0) words count memo words′ count′ memo′
-      → Turning sizes rules work old birthdate (headsOf 0) (headsOf (head + 1)) words₀ count₀ memo₀ words′ count′ memo′
+      → Turning sizes rules places work old birthdate (headsOf 0) (headsOf head) words₀ count₀ memo₀ words count memo → head < sizes .control * sizes .letters
+      → Adds sizes rules places work old birthdate (rulesFrom birthdate (head / sizes .letters) (head % sizes .letters) 0) words count memo words′ count′ memo′
+      → Turning sizes rules places work old birthdate (headsOf 0) (headsOf (head + 1)) words₀ count₀ memo₀ words′ count′ memo′
   head-turn head t l d =
-      goes-on sizes rules work old birthdate t (rulesFrom birthdate (head / sizes .letters) (head % sizes .letters) 0) (headsOf (head + 1))
-      (λ g es n h. heads-split g es n sizes rules work old h birthdate (sizes .letters) (sizes .control * sizes .letters) head refl refl l)
+      goes-on sizes rules places work old birthdate t (rulesFrom birthdate (head / sizes .letters) (head % sizes .letters) 0) (headsOf (head + 1))
+      (λ g es n h. heads-split g es n sizes rules places work old h birthdate (sizes .letters) (sizes .control * sizes .letters) head refl refl l)
       d
 
   -- the whole round
   pub round-filled : {words : List ℕ} {memo words′ : List ℕ} {count′ : ℕ} {memo′ : List ℕ}
-      → Adds sizes rules work old birthdate (headsOf 0) words old memo words′ count′ memo′
+      → Adds sizes rules places work old birthdate (headsOf 0) words old memo words′ count′ memo′
       → (g : PushdownGame) (es : List Entry) (n : ℕ) → Held g sizes rules → Good g → AllRanged g es → Stored n work old es
-      → Stored n words old es → Blank memo
+      → Stored n words old es → Placing g work old places → Blank memo
       → Filled n words′ count′ (growing n (candidates g es birthdate) (partly es))
-  round-filled {words} {memo} d g es n held good ranged stored table blank =
-      let h : Setting g es n sizes rules work old = record { held = held; good = good; ranged = ranged; stored = stored } in
+  round-filled {words} {memo} d g es n held good ranged stored table placing blank =
+      let h : Setting g es n sizes rules places work old = record { held = held; good = good; ranged = ranged; stored = stored; placing = placing } in
       let f = d .adds g es n (partly es) h (inr (refl, table)) (blank-memoed g es birthdate n memo (partly es) blank) .filled in
-      rw (heads-all g es n sizes rules work old h birthdate (sizes .letters) (sizes .control * sizes .letters) 0 refl refl) at f
+      rw (heads-all g es n sizes rules places work old h birthdate (sizes .letters) (sizes .control * sizes .letters) 0 refl refl) at f
+
+-- `take_round`: the places of every head of the automaton are looked up
+module _ (g : PushdownGame) (sizes : Sizes) (rules : List ℕ) (held : Held g sizes rules) (good : Good g) where
+  pub letters-few : sizes .letters ≤ 64
+  letters-few = omega (arith, ap (λ (x : Sizes). x .letters) (held .sized), good .ranged .letters)
+
+  pub heads-placed : (work : List ℕ) (old : ℕ) (places : List ℕ) → PlacedTo work old places (sizes .letters) (sizes .states * 64) → Placing g work old places
+  heads-placed work old places to q a lq la =
+      let states = ap (λ (x : Sizes). x .states) (held .sized) in
+      let letters = ap (λ (x : Sizes). x .letters) (held .sized) in
+      to q a (omega (arith, letters)) (omega (arith, states, letters-few))

@@ -16,6 +16,7 @@ use Rattle.solver.specs.RoundLaws.{AllRanged}
 use Rattle.solver.specs.Growing.{Growing, growing, fully, full-stays}
 use Rattle.solver.specs.GrowingLaws.{growing-append}
 use Rattle.solver.specs.Filled.{Stored, Filled}
+use Rattle.solver.specs.Places.{Placing}
 use Rattle.solver.specs.Jobs.{Finished, Memoed}
 use Rattle.solver.specs.RoundJobs.{runRuns}
 use Rattle.solver.specs.RoundJobLaws.{jobsFrom}
@@ -43,11 +44,12 @@ headsFrom birthdate letters heads head g es =
     flatMap (λ h. headCandidates g es birthdate (h / letters) (h % letters)) (drop head (below heads))
 
 -- What a round enters with.
-pub record Setting (g : PushdownGame) (es : List Entry) (n : ℕ) (sizes : Sizes) (rules work : List ℕ) (old : ℕ) : Type 0 where
+pub record Setting (g : PushdownGame) (es : List Entry) (n : ℕ) (sizes : Sizes) (rules places work : List ℕ) (old : ℕ) : Type 0 where
   pub held : Held g sizes rules
   pub good : Good g
   pub ranged : AllRanged g es
   pub stored : Stored n work old es
+  pub placing : Placing g work old places
 
 -- A table that was grown, and what of a list is still to come.
 pub record Going (g : PushdownGame) (es : List Entry) (birthdate n : ℕ) (whole : List Entry) (s : Growing) (rest : List Entry) (words : List ℕ) (count : ℕ) (memo : List ℕ) : Type 0 where
@@ -69,15 +71,15 @@ over-full n words count s f l =
     (λ t. absurd (omega (arith, long-of n words count s f, t .1 .counted, t .1 .fits)))
     f
 
-module _ (sizes : Sizes) (rules work : List ℕ) (old birthdate : ℕ) where
+module _ (sizes : Sizes) (rules places work : List ℕ) (old birthdate : ℕ) where
   -- From one table and memo to another a list is added, whatever game they stand for.
   pub record Adds (list : Entries) (words : List ℕ) (count : ℕ) (memo words′ : List ℕ) (count′ : ℕ) (memo′ : List ℕ) : Type 0 where
-    pub adds : (g : PushdownGame) (es : List Entry) (n : ℕ) (s : Growing) → Setting g es n sizes rules work old
+    pub adds : (g : PushdownGame) (es : List Entry) (n : ℕ) (s : Growing) → Setting g es n sizes rules places work old
         → Filled n words count s → Memoed g es birthdate n memo s → Finished g es birthdate n (list g es) s words′ count′ memo′
 
   -- And of a list `rest` is still to come.
   pub record Turning (whole rest : Entries) (words : List ℕ) (count : ℕ) (memo words′ : List ℕ) (count′ : ℕ) (memo′ : List ℕ) : Type 0 where
-    pub turns : (g : PushdownGame) (es : List Entry) (n : ℕ) (s : Growing) → Setting g es n sizes rules work old
+    pub turns : (g : PushdownGame) (es : List Entry) (n : ℕ) (s : Growing) → Setting g es n sizes rules places work old
         → Filled n words count s → Memoed g es birthdate n memo s
         → Going g es birthdate n (whole g es) s (rest g es) words′ count′ memo′
 
@@ -88,7 +90,7 @@ module _ (sizes : Sizes) (rules work : List ℕ) (old birthdate : ℕ) where
   module _ {whole rest : Entries} {words : List ℕ} {count : ℕ} {memo words′ : List ℕ} {count′ : ℕ} {memo′ : List ℕ} (t : Turning whole rest words count memo words′ count′ memo′) where
     -- what is to come in other words
     pub becomes : (rest′ : Entries)
-        → ((g : PushdownGame) (es : List Entry) (n : ℕ) → Setting g es n sizes rules work old → rest g es ≡ rest′ g es)
+        → ((g : PushdownGame) (es : List Entry) (n : ℕ) → Setting g es n sizes rules places work old → rest g es ≡ rest′ g es)
         → Turning whole rest′ words count memo words′ count′ memo′
     becomes rest′ e =
         record {
@@ -105,7 +107,7 @@ module _ (sizes : Sizes) (rules work : List ℕ) (old birthdate : ℕ) where
 
     -- a part of what is to come is added
     pub goes-on : (part rest′ : Entries)
-        → ((g : PushdownGame) (es : List Entry) (n : ℕ) → Setting g es n sizes rules work old → rest g es ≡ part g es ++ rest′ g es)
+        → ((g : PushdownGame) (es : List Entry) (n : ℕ) → Setting g es n sizes rules places work old → rest g es ≡ part g es ++ rest′ g es)
         → {words″ : List ℕ} {count″ : ℕ} {memo″ : List ℕ} → Adds part words′ count′ memo′ words″ count″ memo″
         → Turning whole rest′ words count memo words″ count″ memo″
     goes-on part rest′ split d =
@@ -125,7 +127,7 @@ module _ (sizes : Sizes) (rules work : List ℕ) (old birthdate : ℕ) where
         }
 
     -- nothing is to come
-    pub ends : ((g : PushdownGame) (es : List Entry) (n : ℕ) → Setting g es n sizes rules work old → rest g es ≡ [])
+    pub ends : ((g : PushdownGame) (es : List Entry) (n : ℕ) → Setting g es n sizes rules places work old → rest g es ≡ [])
         → Adds whole words count memo words′ count′ memo′
     unfolding growing
     ends none =

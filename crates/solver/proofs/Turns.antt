@@ -15,6 +15,7 @@ use Rattle.game.specs.ListLaws.{_∈_, test, clash}
 use Rattle.game.specs.Game.{Rule, PushdownGame, ofHead}
 use Rattle.game.specs.Stored.{ruleAt}
 use Rattle.game.specs.StoredLaws.{noRule}
+use Rattle.game.specs.GoodGame.{GoodRule}
 use Rattle.table.specs.Table.{Entry, entryOf, key}
 use Rattle.table.specs.Rows.{Placed, wordsAt}
 use Rattle.table.specs.declared.entry.EntryWords.{EntryWords}
@@ -25,8 +26,9 @@ use Rattle.solver.specs.Growing.{Growing, grow, growing}
 use Rattle.solver.specs.Filled.{Filled, Small}
 use Rattle.solver.specs.InsertLaws.{noEntry, getD-in}
 use Rattle.solver.specs.Memo.{lineAt}
-use Rattle.solver.specs.Jobs.{Late, Whole, Entered, Finished, NextRule, Highest, rulesBetween, subRuns, beginRuns, passRuns, tagOf}
-use Rattle.solver.specs.JobLaws.{none-left, highest-first, passOf, pass-at}
+use Rattle.solver.specs.Places.{PlacedHead, Placing}
+use Rattle.solver.specs.Jobs.{Late, Whole, Entered, Finished, NextRule, Highest, rulesBetween, subRuns, beginRuns, tagOf}
+use Rattle.solver.specs.JobLaws.{none-left}
 use Rattle.solver.specs.NextLaws.{next-is, none-next, beginOf, begin-at, pops, writes}
 use Rattle.solver.specs.declared.runs.Job.{Job}
 use Rattle.solver.proofs.Heads.{shifted-one}
@@ -39,15 +41,15 @@ use Rattle.solver.proofs.Parts.{smaller, union-some, whole, entry-at, r
 pub rest-is : (left q : ℕ) → Highest left q → left % (1 * 2 ^ q % 4294967296) ≡ left % 2 ^ q
 rest-is left q high = rw (shifted-one q (high .small))
 
-pub rest-less : (left q : ℕ) → 0 < left → Highest left q → left % (1 * 2 ^ q % 4294967296) < left
-rest-less left q some high = rw (rest-is left q high) (smaller left q some high)
+pub rest-below : (left q rest m : ℕ) → left < 2 ^ m → rest ≡ left % 2 ^ q → 0 < left → Highest left q → rest < 2 ^ m
+rest-below left q rest m small e some high = omega (arith, smaller left q some high)
 
 no-right : (b : Bool) {c : Bool} → c ≡ false → (b && c) ≡ false
 no-right true e = e
 no-right false e = refl
 
 -- a state of a set of states below m is below m
-state-of : (set q m : ℕ) → set < 2 ^ m → has set q ≡ true → q < m
+pub state-of : (set q m : ℕ) → set < 2 ^ m → has set q ≡ true → q < m
 state-of set q m small there =
     ⊎-elim (λ (t : ltb q m ≡ true). ltb-true q m t)
     (λ (t : ltb q m ≡ false). clash there (has-above m set q small (ltb-false q m t)))
@@ -80,6 +82,9 @@ module _ (g : PushdownGame) (old : List Entry) (birthdate n : ℕ) (job : Job) (
   passed-some : (i u : ℕ) → i < job .count → 0 < union u (entry i .set)
   passed-some i u l = union-some (g .states) u (entry i .set) (set-small i l) (set-some i l)
 
+  pub word-adds : (i u : ℕ) → i < job .count → 0 < union u (getD work (i * 3 + 1) 0)
+  word-adds i u l = rw (set-is i l) (passed-some i u l)
+
   module _ (i : ℕ) (l : i < job .count) (w : EntryWords) (e : w ≡ wordsAt work i) where
     pub words-are : entryOf (w .first) (w .set) (w .rule) ≡ entry i
     words-are = rw e (entry-is i l)
@@ -93,8 +98,8 @@ module _ (g : PushdownGame) (old : List Entry) (birthdate n : ℕ) (job : Job) (
     pub set-adds : (u : ℕ) → 0 < w .set + u
     set-adds u = rw set-of (omega (arith, set-some i l))
 
-    pub union-adds : (rest u : ℕ) → 0 < rest + union u (w .set)
-    union-adds rest u = rw set-of (omega (arith, passed-some i u l))
+    pub union-adds : (u : ℕ) → 0 < union u (w .set)
+    union-adds u = rw set-of (passed-some i u l)
 
     -- whether entry i is one of a head, by its state and its letter
     pub other-state : (q c : ℕ) → (entryOf (w .first) (w .set) (w .rule) .state ≡ q → ⊥) → entryOfHead q c (entry i) ≡ false
@@ -139,6 +144,34 @@ module _ (g : PushdownGame) (old : List Entry) (birthdate n : ℕ) (job : Job) (
     pub to-small : rule .to < 32
     to-small = omega (arith, h .stands .ranged .rule rule (getD-in noRule (g .rules) r within) .to, h .stands .ranged .controls)
 
+    -- where the entries of the heads stand that its runs pass
+    module _ (places : List ℕ) (placing : Placing g work (job .count) places) where
+      good-rule : GoodRule (g .control) (g .letters) rule
+      good-rule = h .stands .ranged .rule rule (getD-in noRule (g .rules) r within)
+
+      pub above-placed : PlacedHead work (job .count) places (getD rules (r * 6 + 2) 0) (getD rules (r * 6 + 4) 0)
+      above-placed =
+          rw (to-is, above-is) (placing (rule .to) (rule .above) (omega (arith, good-rule .to, h .stands .ranged .control)) (good-rule .above))
+
+      below-placed : (q : ℕ) → q < g .states → PlacedHead work (job .count) places q (rule .below)
+      below-placed q m = placing q (rule .below) m (good-rule .below)
+
+      -- as the code asks for them, for a state of a set
+      module _ (left q : ℕ) (small : left < 2 ^ g .states) (some : 0 < left) (high : Highest left q) where
+        placed-below : PlacedHead work (job .count) places q (rule .below)
+        placed-below = below-placed q (state-of left q (g .states) small (high .member some))
+
+        pub starts-below : (x : ℕ) → (PlacedHead work (job .count) places q (getD rules (r * 6 + 5) 0) → Placed work (job .count) (key q (getD rules (r * 6 + 5) 0) 0) x)
+            → Placed work (job .count) (key q (rule .below) 0) x
+        starts-below x f = rw below-is at f placed-below
+
+        pub ends-below : (x : ℕ) → (PlacedHead work (job .count) places q (getD rules (r * 6 + 5) 0) → Placed work (job .count) (key q (getD rules (r * 6 + 5) 0) 4294967296) x)
+            → Placed work (job .count) (key q (rule .below) 4294967296) x
+        ends-below x f = rw below-is at f placed-below
+
+      pub below-small : rule .below < 256
+      below-small = omega (arith, good-rule .below, h .stands .ranged .letters)
+
   -- what a function leaves
   abbrev Leaves : List ℕ → List ℕ → ℕ → List ℕ → Type 0
   Leaves runs words′ count′ memo′ =
@@ -151,7 +184,7 @@ module _ (g : PushdownGame) (old : List Entry) (birthdate n : ℕ) (job : Job) (
   unfolding growing
   nothing e = same-list e (unchanged g old birthdate n job rules work words count memo s h [] refl)
 
-  -- `left_over`: the memo has it, or it is finished and noted
+  -- `rules_after`: the memo has it, or it is finished and noted
   pub hit : (r left u tag : ℕ) → Whole g job r → r < job .end → tag ≡ tagOf (job .state) (job .letter) r
       → (k : ℕ) × (lineAt memo k ≡ record { tag = tag; left = left; union = u })
       → Leaves (subRuns g old (job .state) (job .letter) (job .end) r left u) words count memo
@@ -166,26 +199,6 @@ module _ (g : PushdownGame) (old : List Entry) (birthdate n : ℕ) (job : Job) (
   notes r left u tag whole l e words′ count′ memo′ memo″ f lines =
       noted g old birthdate n job rules work words count memo s h r left u whole (within r l) words′ count′ memo′ memo″ f
       (λ k. rw e at (lines k))
-
-  -- `passes_with`: entry i is no transition of state q on the rule's lower letter, or it is
-  module _ (r i q rest u : ℕ) where
-    pub passes-none : entryOfHead q (getD (g .rules) r noRule .below) (entry i) ≡ false
-        → Leaves (passRuns g old (job .state) (job .letter) (job .end) r i q rest u) words count memo
-    unfolding passRuns
-    passes-none t =
-        nothing
-        (ap (λ (b : Bool). cond b (subRuns g old (job .state) (job .letter) (job .end) r rest (union u (entry i .set))) []) t)
-
-    pub passes-on : (set : ℕ) → set ≡ entry i .set → entryOfHead q (getD (g .rules) r noRule .below) (entry i) ≡ true
-        → {words′ : List ℕ} {count′ : ℕ} {memo′ : List ℕ}
-        → Leaves (subRuns g old (job .state) (job .letter) (job .end) r rest (union u set)) words′ count′ memo′
-        → Leaves (passRuns g old (job .state) (job .letter) (job .end) r i q rest u) words′ count′ memo′
-    unfolding passRuns
-    passes-on set e t f =
-        same-list
-        (ap (λ (b : Bool). cond b (subRuns g old (job .state) (job .letter) (job .end) r rest (union u (entry i .set))) []) t
-        ∙ ap (λ (x : ℕ). subRuns g old (job .state) (job .letter) (job .end) r rest (union u x)) (sym e))
-        f
 
   -- `runs_with`: entry i is no transition on the rule's upper letter, or it is, and the rule writes one letter or two
   module _ (r i u : ℕ) where
@@ -255,10 +268,8 @@ module _ (g : PushdownGame) (old : List Entry) (birthdate n : ℕ) (job : Job) (
         pub joins : passed ≡ union u (single (rule r l .to))
         joins = rw (to-is r l) at j (to-small r l)
 
-        pub joins-some : 0 < 0 + passed
-        joins-some =
-            rw joins
-            (omega (arith, union-some 32 u (single (rule r l .to)) (pow-lt (to-small r l)) (pow-pos (rule r l .to))))
+        pub joins-some : 0 < passed
+        joins-some = rw joins (union-some 32 u (single (rule r l .to)) (pow-lt (to-small r l)) (pow-pos (rule r l .to)))
 
       pub pops-first : rule r l .count ≡ 0 → (passed : ℕ) → passed ≡ union u (single (rule r l .to))
           → {words′ : List ℕ} {count′ : ℕ} {memo′ : List ℕ}
@@ -277,7 +288,7 @@ module _ (g : PushdownGame) (old : List Entry) (birthdate n : ℕ) (job : Job) (
           (ap (λ (rs : List Rule). restRuns g old rs u) (split .0) ∙ writes g old (job .state) (job .letter) (job .end) r u z)
           f
 
-  -- `spread`: no state is left, or the highest one is passed first
+  -- `rules_after`: no state is left
   pub none-of-it : (r u : ℕ) {words′ : List ℕ} {count′ : ℕ} {memo′ : List ℕ}
       → Leaves (restRuns g old (rulesBetween g (job .state) (job .letter) (r + 1) (job .end)) u) words′ count′ memo′
       → Leaves (subRuns g old (job .state) (job .letter) (job .end) r 0 u) words′ count′ memo′
@@ -288,27 +299,11 @@ module _ (g : PushdownGame) (old : List Entry) (birthdate n : ℕ) (job : Job) (
       ∙ ap (λ (k : ℕ). restRuns g old (rulesBetween g (job .state) (job .letter) k (job .end)) u) next)
       f
 
-  pub highest-passed : (r left u q rest : ℕ) → 0 < left → left < 2 ^ g .states → Highest left q → rest ≡ left % 2 ^ q
-      → {words′ : List ℕ} {count′ : ℕ} {memo′ : List ℕ}
-      → Leaves (flatMap (passOf g old (job .state) (job .letter) (job .end) r q rest u) old) words′ count′ memo′
-      → Leaves (subRuns g old (job .state) (job .letter) (job .end) r left u) words′ count′ memo′
-  highest-passed r left u q rest some small high e f =
-      same-list
-      (highest-first g old (job .state) (job .letter) (job .end) r left u q (state-of left q (g .states) small (high .member some)) (high .member some)
-      (λ k l m. high .above k l (omega (arith, h .stands .ranged .states)))
-      ∙ ap (λ (x : ℕ). flatMap (passOf g old (job .state) (job .letter) (job .end) r q x u) old) (sym e))
-      f
-
   -- what entry i gives, as the entries that are taken one after another have it
   pub begun : (r i u : ℕ) {words′ : List ℕ} {count′ : ℕ} {memo′ : List ℕ}
       → Leaves (beginRuns g old (job .state) (job .letter) (job .end) r i u) words′ count′ memo′
       → Leaves (beginOf g old (job .state) (job .letter) (job .end) r u (entry i)) words′ count′ memo′
   begun r i u f = same-list (sym (begin-at g old (job .state) (job .letter) (job .end) r i u)) f
-
-  pub passed : (r i q rest u : ℕ) {words′ : List ℕ} {count′ : ℕ} {memo′ : List ℕ}
-      → Leaves (passRuns g old (job .state) (job .letter) (job .end) r i q rest u) words′ count′ memo′
-      → Leaves (passOf g old (job .state) (job .letter) (job .end) r q rest u (entry i)) words′ count′ memo′
-  passed r i q rest u f = same-list (sym (pass-at g old (job .state) (job .letter) (job .end) r i q rest u)) f
 
 -- The entries of a head are taken from the place of its first one to the place after its last one, where the others give nothing.
 module _ (g : PushdownGame) (old : List Entry) (birthdate n : ℕ) (job : Job) (rules work : List ℕ) (f : Entry → List ℕ) (q a : ℕ) (none : (e : Entry) → entryOfHead q a e ≡ false → f e ≡ []) where
@@ -349,8 +344,3 @@ begins-nothing g old p a end r u q b to above e t =
     (cond (eqb (getD (g .rules) r noRule .count) 1) (subRuns g old p a end r 0 (union u (e .set))) (subRuns g old p a end r (e .set) u))
     [])
     (rw (to, above) at t)
-
-pub passes-nothing : (g : PushdownGame) (old : List Entry) (p a end r q rest u : ℕ) (b : ℕ) → b ≡ getD (g .rules) r noRule .below
-    → (e : Entry) → entryOfHead q b e ≡ false → passOf g old p a end r q rest u e ≡ []
-passes-nothing g old p a end r q rest u b below e t =
-    ap (λ (of : Bool). cond of (subRuns g old p a end r rest (union u (e .set))) []) (rw below at t)

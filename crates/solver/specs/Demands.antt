@@ -54,11 +54,11 @@ saysLost (JudgeRefused question place) = false
 
 -- What holds of a call of `solve` that returned entries and rounds, and of a judge over the words that it left: `judge` gives for
 -- each position's bytes the answer of a call.
-pub record Demands (file table work : List ℕ) (lent entries rounds : ℕ) (judge : List ℕ → Answered) : Type 0 where
+pub record Demands (file table work : List ℕ) (lent lent-work entries rounds : ℕ) (judge : List ℕ → Answered) : Type 0 where
   pub game : PushdownGame
   pub read : reading file ≡ done game
   -- the work area is zero, of the length that it was lent with
-  pub cleared : (n : ℕ) × (work ≡ replicate n 0)
+  pub cleared : work ≡ replicate lent-work 0
   -- the table is that of the rounds (demand 2), and play under advice over it is what document 01 says (demand 3)
   pub judges : Judges file lent (solvedAs entries rounds table)
   pub plays : Plays file (solvedAs entries rounds table)
@@ -139,7 +139,7 @@ Reporting file table game =
 -- file with areas of t and w words returned and left, and `judge` is what calls of `judge` over that file and that table return.
 pub demands : (file : List ℕ) (t w : ℕ) (answer : Solution) (table work : List ℕ) → called answer table work ≡ solveCall file t w
     → (judge : List ℕ → Answered) → ((position : List ℕ) → judged (judge position) ≡ judging file table position)
-    → (entries rounds : ℕ) → answer ≡ SolvedWith entries rounds → Demands file table work t entries rounds judge
+    → (entries rounds : ℕ) → answer ≡ SolvedWith entries rounds → Demands file table work t w entries rounds judge
 unfolding solveCall
 demands file t w answer table work promise judge judges entries rounds e =
     let s = solved-words (solvingWords file t w) t w entries rounds table work (rw e at promise) in
@@ -149,7 +149,7 @@ demands file t w answer table work promise judge judges entries rounds e =
     record {
       game = two .game;
       read = two .read;
-      cleared = (w, s .1);
+      cleared = s .1;
       judges = two;
       plays = three;
       verdicts =

@@ -16,9 +16,8 @@ use Rattle.solver.specs.Rounds.{members, setsOf}
 use Rattle.solver.specs.Enumeration.{restRuns, stateRuns}
 use Rattle.solver.specs.Growing.{Growing, growing}
 use Rattle.solver.specs.GrowingLaws.{growing-append}
-use Rattle.solver.specs.InsertLaws.{noEntry}
 use Rattle.solver.specs.MemberLaws.{members-none, members-highest}
-use Rattle.solver.specs.Jobs.{rulesBetween, subRuns, passRuns, tagOf}
+use Rattle.solver.specs.Jobs.{rulesBetween, subRuns, tagOf}
 
 -- the sets of a head's transitions, taken from the entries one after another
 pub sets-scan : {B : Type 0} (f : ℕ → List B) (q a : ℕ) (table : List Entry)
@@ -80,11 +79,6 @@ highest-first g old p a end r left u q l h above =
     let rs = rulesBetween g p a (suc r) end in
     let ss = members (g .states) (left % 2 ^ q) in
     rw (members-highest (g .states) left q l h above) (sets-scan (λ x. stateRuns g old c rs ss (union u x)) q c old)
-
-pub pass-at : (g : PushdownGame) (old : List Entry) (p a end r i q rest u : ℕ)
-    → passRuns g old p a end r i q rest u ≡ passOf g old p a end r q rest u (getD old i noEntry)
-unfolding passRuns
-pass-at g old p a end r i q rest u = refl
 
 -- a number names one head and one rule
 pub tag-of : (p a r p′ a′ r′ : ℕ) → a < 64 → a′ < 64 → r < 256 → r′ < 256 → tagOf p a r ≡ tagOf p′ a′ r′

@@ -2,7 +2,7 @@
 use Prim.Native.Nat.{ℕ, suc, _+_, _*_, _-_, _^_, _<_, _≤_}
 use mathlib.Core.Path.{_≡_}
 use mathlib.Core.Logic.{_⊎_}
-use mathlib.Core.Bool.{Bool, true, false, cond}
+use mathlib.Core.Bool.{true, false, cond}
 use mathlib.Core.List.{List, [], map, _++_}
 use lib.ListN.{length, getD, take, drop}
 use Rattle.game.specs.Game.{Rule, PushdownGame, filter, ofHead}
@@ -16,12 +16,12 @@ use Rattle.game.specs.Win.{isAbelard}
 use Rattle.table.specs.Table.{Entry, firstWord}
 use Rattle.judge.specs.Worth.{entryOfHead}
 use Rattle.solver.specs.Rounds.{members, entryAt}
-use Rattle.solver.specs.Enumeration.{restRuns, stateRuns}
+use Rattle.solver.specs.Enumeration.{stateRuns}
 use Rattle.solver.specs.Growing.{Growing, growing}
 use Rattle.solver.specs.GrowingLaws.{HeldBy}
 use Rattle.solver.specs.Filled.{Stored, Filled}
 use Rattle.solver.specs.InsertLaws.{noEntry}
-use Rattle.solver.specs.Memo.{Line, lineAt}
+use Rattle.solver.specs.Memo.{lineAt}
 use Rattle.solver.specs.declared.runs.Job.{Job}
 
 -- the rules of a head at places `from` to `end` - 1
@@ -63,12 +63,6 @@ beginRuns g old p a end r i u =
     cond (entryOfHead (rule .to) (rule .above) e)
     (cond (eqb (rule .count) 1) (subRuns g old p a end r 0 (union u (e .set))) (subRuns g old p a end r (e .set) u))
     []
-
--- and those that go on with entry i as the transition of state q, the states `rest` left after it
-unfoldable pub passRuns : PushdownGame → List Entry → ℕ → ℕ → ℕ → ℕ → ℕ → ℕ → ℕ → ℕ → List ℕ
-passRuns g old p a end r i q rest u =
-    let e = getD old i noEntry in
-    cond (entryOfHead q (getD (g .rules) r noRule .below) e) (subRuns g old p a end r rest (union u (e .set))) []
 
 -- what indexes need
 pub record Able (job : Job) (rules work : ℕ) : Type 0 where

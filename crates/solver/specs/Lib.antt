@@ -35,3 +35,5 @@ pub mod MemoLaws
 pub mod RoundJobs
 pub mod RoundJobLaws
 pub mod GrownRound
+pub mod Places
+pub mod Walk

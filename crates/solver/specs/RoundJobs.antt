@@ -1,6 +1,6 @@
 -- The jobs of a round: for each rule of Éloise's head one, and one for Abelard's head from his first rule on; and the runs of a
 -- job by the first transition of its first rule.
-use Prim.Native.Nat.{ℕ, _+_, _*_}
+use Prim.Native.Nat.{ℕ, _+_, _*_, _≤_}
 use mathlib.Core.Path.{_≡_}
 use mathlib.Core.Bool.{Bool, cond}
 use mathlib.Core.List.{List}
@@ -10,7 +10,9 @@ use Rattle.game.specs.Sets.{has, single}
 use Rattle.game.specs.Game.{PushdownGame}
 use Rattle.game.specs.StoredLaws.{noRule}
 use Rattle.game.specs.declared.game.Sizes.{Sizes}
-use Rattle.table.specs.Table.{Entry, firstWord}
+use Rattle.table.specs.Table.{Entry, key, firstWord}
+use Rattle.table.specs.Rows.{Placed}
+use Rattle.solver.specs.Places.{PlacedHead}
 use Rattle.solver.specs.Memo.{lineAt}
 use Rattle.solver.specs.Jobs.{subRuns, beginRuns}
 use Rattle.solver.specs.declared.runs.Job.{Job}
@@ -42,3 +44,18 @@ runRuns g old p a end r i =
 -- a memo that names nothing
 abbrev pub Blank : List ℕ → Type 0
 Blank memo = (k : ℕ) → lineAt memo k .tag ≡ 0
+
+-- where the runs of a rule that writes letters begin and end in the old round, by the places of the head that it goes to
+pub record RunsStart (rules places : List ℕ) (r old start : ℕ) : Type 0 where
+  pub first : getD rules (r * 6 + 3) 0 ≡ 0 → start ≡ 0
+  pub within : start ≤ old
+  pub placed : (getD rules (r * 6 + 3) 0 ≡ 0 → ⊥) → (work : List ℕ)
+      → PlacedHead work old places (getD rules (r * 6 + 2) 0) (getD rules (r * 6 + 4) 0)
+      → Placed work old (key (getD rules (r * 6 + 2) 0) (getD rules (r * 6 + 4) 0) 0) start
+
+pub record RunsEnd (rules places : List ℕ) (r old end : ℕ) : Type 0 where
+  pub one : getD rules (r * 6 + 3) 0 ≡ 0 → end ≡ 1
+  pub within : (getD rules (r * 6 + 3) 0 ≡ 0 → ⊥) → end ≤ old
+  pub placed : (getD rules (r * 6 + 3) 0 ≡ 0 → ⊥) → (work : List ℕ)
+      → PlacedHead work old places (getD rules (r * 6 + 2) 0) (getD rules (r * 6 + 4) 0)
+      → Placed work old (key (getD rules (r * 6 + 2) 0) (getD rules (r * 6 + 4) 0) 4294967296) end

@@ -6,6 +6,7 @@
 mod adding;
 mod area;
 mod memo;
+mod places;
 mod round;
 mod runs;
 mod solving;

@@ -1,10 +1,14 @@
 // A round: what the runs of the old round give, head by head, rule by rule and run by run.
 use crate::memo::LINE;
 use crate::memo::LINES;
+use crate::places::PLACES;
+use crate::places::end_at;
+use crate::places::set_places;
+use crate::places::start_at;
 use crate::runs::Job;
 use crate::runs::joined;
-use crate::runs::left_over;
 use crate::runs::next_rule;
+use crate::runs::rules_after;
 use crate::runs::runs_with;
 use game::Game;
 use game::Sizes;
@@ -24,7 +28,8 @@ ghost use Rattle.solver.specs.RoundLaws.{AllRanged};
 ghost use Rattle.solver.specs.Growing.{Growing, growing, partly};
 ghost use Rattle.solver.specs.Filled.{Stored, Filled};
 ghost use Rattle.solver.specs.Jobs.{Able, Whole, Entered, Finished};
-ghost use Rattle.solver.specs.RoundJobs.{jobOf, runsOf, runRuns, Blank};
+ghost use Rattle.solver.specs.Places.{Placing};
+ghost use Rattle.solver.specs.RoundJobs.{jobOf, runsOf, runRuns, Blank, RunsStart, RunsEnd};
 
 // The next round, added to a table that holds the old one as `work` does: the number of entries afterwards, or one more than
 // the table can hold. The memo is the round's own.
@@ -42,8 +47,19 @@ pub fn take_round(
         → Filled n (now (table .exit)) r (growing n (candidates g es birthdate) (partly es))) ⌝ }
     ensures { λ _. ⌜ length (now (table .exit)) ≡ length (now (table .entry)) ⌝ }
 {
+    let mut places = [0usize; PLACES];
+    set_places(&mut places, work, old, sizes.states, sizes.letters);
     let mut memo = [0u32; LINES * LINE];
-    add_runs(sizes, rules, work, table, &mut memo, old, birthdate)
+    add_runs(
+        sizes,
+        rules,
+        &places,
+        work,
+        table,
+        &mut memo,
+        old,
+        birthdate,
+    )
 }
 
 // The nest is left at the first entry beyond the table, whichever head or rule gave it. Abelard's head has one job, from his
@@ -51,6 +67,7 @@ pub fn take_round(
 fn add_runs(
     sizes: Sizes,
     rules: &[u8],
+    places: &[usize],
     work: &[u32],
     table: &mut [u32],
     memo: &mut [u32],
@@ -59,7 +76,7 @@ fn add_runs(
 ) -> usize
     requires { ⌜ Safe sizes (now rules) × (0 < sizes .letters) × (old * 3 ≤ length (now work)) × (birthdate < 65536) ⌝ }
     ensures { λ r. ⌜ ((g : PushdownGame) (es : List Entry) (n : ℕ) → Held g sizes (now (rules .entry)) → Good g → AllRanged g es
-        → Stored n (now (work .entry)) old es → Stored n (now (table .entry)) old es → Blank (now (memo .entry))
+        → Stored n (now (work .entry)) old es → Stored n (now (table .entry)) old es → Placing g (now (work .entry)) old (now (places .entry)) → Blank (now (memo .entry))
         → Filled n (now (table .exit)) r (growing n (candidates g es birthdate) (partly es))) ⌝ }
     ensures { λ _. ⌜ length (now (table .exit)) ≡ length (now (table .entry)) ⌝ }
 {
@@ -75,10 +92,10 @@ fn add_runs(
         let mut r = next_rule(rules, rulecount, 0, p, a);
         while r < rulecount {
             let job = job_of(sizes, p, a, birthdate, r, old);
-            let runs = runs_of(rules, r, old);
-            let mut i = 0;
-            while i < runs {
-                count = run_at(job, rules, work, table, memo, count, r, i);
+            let end = runs_end(rules, places, r, old);
+            let mut i = runs_start(rules, places, r, old);
+            while i < end {
+                count = run_at(job, rules, places, work, table, memo, count, r, i);
                 if size < count {
                     break 'round;
                 }
@@ -117,21 +134,34 @@ fn job_of(sizes: Sizes, p: u8, a: u8, birthdate: u32, r: usize, old: usize) -> J
     }
 }
 
-// How many runs a rule has by their first transition: one, where it writes nothing.
-fn runs_of(rules: &[u8], r: usize, old: usize) -> usize
+// Where a rule's runs begin and end, by their first transition: there is one, where it writes nothing.
+fn runs_start(rules: &[u8], places: &[usize], r: usize, old: usize) -> usize
     requires { ⌜ (r + 1) * 6 ≤ length (now rules) ⌝ }
-    ensures { λ x. ⌜ x ≡ runsOf (now (rules .entry)) r old ⌝ }
+    ensures { λ x. ⌜ RunsStart (now (rules .entry)) (now (places .entry)) r old x ⌝ }
 {
-    if rules[r * Game::RULE_STRIDE + 3] == 0 {
+    let at = r * Game::RULE_STRIDE;
+    if rules[at + 3] == 0 {
+        return 0;
+    }
+    start_at(places, old, rules[at + 2], rules[at + 4])
+}
+
+fn runs_end(rules: &[u8], places: &[usize], r: usize, old: usize) -> usize
+    requires { ⌜ (r + 1) * 6 ≤ length (now rules) ⌝ }
+    ensures { λ x. ⌜ RunsEnd (now (rules .entry)) (now (places .entry)) r old x ⌝ }
+{
+    let at = r * Game::RULE_STRIDE;
+    if rules[at + 3] == 0 {
         return 1;
     }
-    old
+    end_at(places, old, rules[at + 2], rules[at + 4])
 }
 
 // Run i of rule r, with those of the job's later rules.
 fn run_at(
     job: Job,
     rules: &[u8],
+    places: &[usize],
     work: &[u32],
     table: &mut [u32],
     memo: &mut [u32],
@@ -142,6 +172,7 @@ fn run_at(
     requires { ⌜ Able job (length (now rules)) (length (now work)) × (r < job .end) × (i < runsOf (now rules) r (job .count)) ⌝ }
     ensures { λ x. ⌜ ((g : PushdownGame) (old : List Entry) (birthdate n : ℕ) (s : Growing)
         → Entered g old birthdate n job (now (rules .entry)) (now (work .entry)) (now (table .entry)) count (now (memo .entry)) s
+        → Placing g (now (work .entry)) (job .count) (now (places .entry))
         → Whole g job r
         → Finished g old birthdate n
         (map (entryAt (job .state) (job .letter) birthdate (job .field)) (runRuns g old (job .state) (job .letter) (job .end) r i))
@@ -152,7 +183,7 @@ fn run_at(
     let at = r * Game::RULE_STRIDE;
     if rules[at + 3] == 0 {
         let passed = joined(0, rules[at + 2]);
-        return left_over(job, rules, work, table, memo, count, r, 0, passed);
+        return rules_after(job, rules, places, work, table, memo, count, r, passed);
     }
-    runs_with(job, rules, work, table, memo, count, r, i, 0)
+    runs_with(job, rules, places, work, table, memo, count, r, i, 0)
 }

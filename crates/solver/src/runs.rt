@@ -3,10 +3,11 @@
 use crate::adding::insert;
 use crate::memo::finish;
 use crate::memo::is_finished;
+use crate::places::end_at;
+use crate::places::start_at;
 use game::Game;
 use game::is_rule_of;
 use table::EntryWords;
-use table::place_of;
 ghost use mathlib.Core.Path.{_≡_};
 ghost use mathlib.Core.List.{List, map};
 ghost use Prim.Native.Nat.{ℕ, _+_, _*_, _^_, _<_, _≤_};
@@ -14,11 +15,12 @@ ghost use Rattle.game.specs.Limits.{maxStates, maxRules};
 ghost use lib.ListN.{length};
 ghost use Rattle.game.specs.Game.{PushdownGame};
 ghost use Rattle.game.specs.Sets.{single, union as unite};
-ghost use Rattle.table.specs.Table.{Entry, key};
-ghost use Rattle.table.specs.Rows.{Placed};
+ghost use Rattle.table.specs.Table.{Entry};
 ghost use Rattle.solver.specs.Rounds.{entryAt};
 ghost use Rattle.solver.specs.Enumeration.{restRuns};
 ghost use Rattle.solver.specs.Growing.{Growing};
+ghost use Rattle.solver.specs.Places.{Placing};
+ghost use Rattle.solver.specs.Walk.{Skipped};
 ghost use Rattle.solver.specs.Jobs.{
   NextRule,
   Highest,
@@ -31,7 +33,6 @@ ghost use Rattle.solver.specs.Jobs.{
   rulesBetween,
   subRuns,
   beginRuns,
-  passRuns,
 };
 
 // What an enumeration is for: a head, the entries' first word and rule field, the rules' end, and the old round's size.
@@ -63,14 +64,10 @@ pub fn next_rule(rules: &[u8], end: usize, from: usize, state: u8, letter: u8) -
 pub fn highest(set: u32) -> u8
     ensures { λ r. ⌜ Highest set r ⌝ }
 {
-    let mut s = Game::MAX_STATES - 1;
-    while 0 < s {
-        if (set >> s) % 2 == 1 {
-            return s;
-        }
-        s -= 1;
+    if set == 0 {
+        return 0;
     }
-    0
+    (31 - u32::leading_zeros(set)) as u8
 }
 
 // A set with a state more; the set itself, where there is no such state.
@@ -81,28 +78,6 @@ pub fn joined(set: u32, s: u8) -> u32
         return set;
     }
     set | (1u32 << s)
-}
-
-// The place of a head's first entry, and the place after its last: in the order of keys its entries stand together.
-pub fn start_of(work: &[u32], count: usize, q: u8, a: u8) -> usize
-    requires { ⌜ count * 3 ≤ length (now work) ⌝ }
-    ensures { λ r. ⌜ Placed (now (work .entry)) count (key q a 0) r ⌝ }
-{
-    place_of(work, count, head_key(q, a))
-}
-
-pub fn end_of(work: &[u32], count: usize, q: u8, a: u8) -> usize
-    requires { ⌜ count * 3 ≤ length (now work) ⌝ }
-    ensures { λ r. ⌜ Placed (now (work .entry)) count (key q a 4294967296) r ⌝ }
-{
-    place_of(work, count, head_key(q, a) + 4294967296)
-}
-
-// The key of a head with the empty set.
-fn head_key(q: u8, a: u8) -> u64
-    ensures { λ r. ⌜ r ≡ key q a 0 ⌝ }
-{
-    ((q as u64) * 256 + (a as u64)) * 4294967296
 }
 
 // A number of its own for each head and rule, never 0.
@@ -119,6 +94,7 @@ pub fn tag_of(state: u8, letter: u8, r: usize) -> u32
 pub fn rules_from(
     job: Job,
     rules: &[u8],
+    places: &[usize],
     work: &[u32],
     table: &mut [u32],
     memo: &mut [u32],
@@ -127,12 +103,13 @@ pub fn rules_from(
     union: u32,
 ) -> usize
     requires { ⌜ Able job (length (now rules)) (length (now work)) × (from ≤ job .end) ⌝ }
-    ensures { λ r. ⌜ ((g : PushdownGame) (old : List Entry) (birthdate n : ℕ) (s : Growing)
+    ensures { λ x. ⌜ ((g : PushdownGame) (old : List Entry) (birthdate n : ℕ) (s : Growing)
         → Entered g old birthdate n job (now (rules .entry)) (now (work .entry)) (now (table .entry)) count (now (memo .entry)) s
+        → Placing g (now (work .entry)) (job .count) (now (places .entry))
         → Late g job from → 0 < union
         → Finished g old birthdate n
         (map (entryAt (job .state) (job .letter) birthdate (job .field)) (restRuns g old (rulesBetween g (job .state) (job .letter) from (job .end)) union))
-        s (now (table .exit)) r (now (memo .exit))) ⌝ }
+        s (now (table .exit)) x (now (memo .exit))) ⌝ }
     ensures { λ _. ⌜ length (now (table .exit)) ≡ length (now (table .entry)) ⌝ }
     ensures { λ _. ⌜ length (now (memo .exit)) ≡ length (now (memo .entry)) ⌝ }
 {
@@ -148,13 +125,13 @@ pub fn rules_from(
     let at = r * Game::RULE_STRIDE;
     if rules[at + 3] == 0 {
         let passed = joined(union, rules[at + 2]);
-        return left_over(job, rules, work, table, memo, count, r, 0, passed);
+        return rules_after(job, rules, places, work, table, memo, count, r, passed);
     }
-    let end = end_of(work, job.count, rules[at + 2], rules[at + 4]);
+    let end = end_at(places, job.count, rules[at + 2], rules[at + 4]);
     let mut filled = count;
-    let mut i = start_of(work, job.count, rules[at + 2], rules[at + 4]);
+    let mut i = start_at(places, job.count, rules[at + 2], rules[at + 4]);
     while i < end {
-        filled = runs_with(job, rules, work, table, memo, filled, r, i, union);
+        filled = runs_with(job, rules, places, work, table, memo, filled, r, i, union);
         i += 1;
     }
     filled
@@ -164,6 +141,7 @@ pub fn rules_from(
 pub fn runs_with(
     job: Job,
     rules: &[u8],
+    places: &[usize],
     work: &[u32],
     table: &mut [u32],
     memo: &mut [u32],
@@ -175,6 +153,7 @@ pub fn runs_with(
     requires { ⌜ Able job (length (now rules)) (length (now work)) × (r < job .end) × (i < job .count) ⌝ }
     ensures { λ x. ⌜ ((g : PushdownGame) (old : List Entry) (birthdate n : ℕ) (s : Growing)
         → Entered g old birthdate n job (now (rules .entry)) (now (work .entry)) (now (table .entry)) count (now (memo .entry)) s
+        → Placing g (now (work .entry)) (job .count) (now (places .entry))
         → Whole g job r
         → Finished g old birthdate n
         (map (entryAt (job .state) (job .letter) birthdate (job .field)) (beginRuns g old (job .state) (job .letter) (job .end) r i union))
@@ -191,130 +170,157 @@ pub fn runs_with(
         return count;
     }
     if rules[at + 3] == 1 {
-        return left_over(
+        return rules_after(
             job,
             rules,
+            places,
             work,
             table,
             memo,
             count,
             r,
-            0,
             union | entry.set,
         );
     }
-    left_over(job, rules, work, table, memo, count, r, entry.set, union)
-}
-
-// One transition for each of the states `left`, then the job's later rules, unless the memo has it.
-pub fn left_over(
-    job: Job,
-    rules: &[u8],
-    work: &[u32],
-    table: &mut [u32],
-    memo: &mut [u32],
-    count: usize,
-    r: usize,
-    left: u32,
-    union: u32,
-) -> usize
-    requires { ⌜ Able job (length (now rules)) (length (now work)) × (r < job .end) ⌝ }
-    ensures { λ x. ⌜ ((g : PushdownGame) (old : List Entry) (birthdate n : ℕ) (s : Growing)
-        → Entered g old birthdate n job (now (rules .entry)) (now (work .entry)) (now (table .entry)) count (now (memo .entry)) s
-        → Whole g job r → left < 2 ^ g .states → 0 < left + union
-        → Finished g old birthdate n
-        (map (entryAt (job .state) (job .letter) birthdate (job .field)) (subRuns g old (job .state) (job .letter) (job .end) r left union))
-        s (now (table .exit)) x (now (memo .exit))) ⌝ }
-    ensures { λ _. ⌜ length (now (table .exit)) ≡ length (now (table .entry)) ⌝ }
-    ensures { λ _. ⌜ length (now (memo .exit)) ≡ length (now (memo .entry)) ⌝ }
-{
-    let tag = tag_of(job.state, job.letter, r);
-    if is_finished(memo, tag, left, union) {
+    if entry.set == 0 {
         return count;
     }
-    let filled = spread(job, rules, work, table, memo, count, r, left, union);
-    finish(memo, tag, left, union);
-    filled
-}
-
-// The same by the transitions of the highest state left.
-fn spread(
-    job: Job,
-    rules: &[u8],
-    work: &[u32],
-    table: &mut [u32],
-    memo: &mut [u32],
-    count: usize,
-    r: usize,
-    left: u32,
-    union: u32,
-) -> usize
-    requires { ⌜ Able job (length (now rules)) (length (now work)) × (r < job .end) ⌝ }
-    ensures { λ x. ⌜ ((g : PushdownGame) (old : List Entry) (birthdate n : ℕ) (s : Growing)
-        → Entered g old birthdate n job (now (rules .entry)) (now (work .entry)) (now (table .entry)) count (now (memo .entry)) s
-        → Whole g job r → left < 2 ^ g .states → 0 < left + union
-        → Finished g old birthdate n
-        (map (entryAt (job .state) (job .letter) birthdate (job .field)) (subRuns g old (job .state) (job .letter) (job .end) r left union))
-        s (now (table .exit)) x (now (memo .exit))) ⌝ }
-    ensures { λ _. ⌜ length (now (table .exit)) ≡ length (now (table .entry)) ⌝ }
-    ensures { λ _. ⌜ length (now (memo .exit)) ≡ length (now (memo .entry)) ⌝ }
-{
-    if left == 0 {
-        return rules_from(job, rules, work, table, memo, count, r + 1, union);
-    }
-    let q = highest(left);
-    let rest = left % (1u32 << q);
-    let below = rules[r * Game::RULE_STRIDE + 5];
-    let end = end_of(work, job.count, q, below);
-    let mut filled = count;
-    let mut i = start_of(work, job.count, q, below);
-    while i < end {
-        filled = passes_with(job, rules, work, table, memo, filled, r, i, q, rest, union);
-        i += 1;
-    }
-    filled
-}
-
-// Those that go on with entry i of the old round as the transition of state q.
-fn passes_with(
-    job: Job,
-    rules: &[u8],
-    work: &[u32],
-    table: &mut [u32],
-    memo: &mut [u32],
-    count: usize,
-    r: usize,
-    i: usize,
-    q: u8,
-    rest: u32,
-    union: u32,
-) -> usize
-    requires { ⌜ Able job (length (now rules)) (length (now work)) × (r < job .end) × (i < job .count) ⌝ }
-    ensures { λ x. ⌜ ((g : PushdownGame) (old : List Entry) (birthdate n : ℕ) (s : Growing)
-        → Entered g old birthdate n job (now (rules .entry)) (now (work .entry)) (now (table .entry)) count (now (memo .entry)) s
-        → Whole g job r → rest < 2 ^ g .states
-        → Finished g old birthdate n
-        (map (entryAt (job .state) (job .letter) birthdate (job .field)) (passRuns g old (job .state) (job .letter) (job .end) r i q rest union))
-        s (now (table .exit)) x (now (memo .exit))) ⌝ }
-    ensures { λ _. ⌜ length (now (table .exit)) ≡ length (now (table .entry)) ⌝ }
-    ensures { λ _. ⌜ length (now (memo .exit)) ≡ length (now (memo .entry)) ⌝ }
-{
-    let entry = EntryWords::at(work, i);
-    if entry.state() != q {
-        return count;
-    }
-    if entry.letter() != rules[r * Game::RULE_STRIDE + 5] {
-        return count;
-    }
-    left_over(
+    pass_states(
         job,
         rules,
+        places,
         work,
         table,
         memo,
         count,
         r,
-        rest,
-        union | entry.set,
+        entry.set,
+        union,
     )
+}
+
+// Rule r is passed, with a union in hand: the job's later rules, unless the memo has it.
+pub fn rules_after(
+    job: Job,
+    rules: &[u8],
+    places: &[usize],
+    work: &[u32],
+    table: &mut [u32],
+    memo: &mut [u32],
+    count: usize,
+    r: usize,
+    union: u32,
+) -> usize
+    requires { ⌜ Able job (length (now rules)) (length (now work)) × (r < job .end) ⌝ }
+    ensures { λ x. ⌜ ((g : PushdownGame) (old : List Entry) (birthdate n : ℕ) (s : Growing)
+        → Entered g old birthdate n job (now (rules .entry)) (now (work .entry)) (now (table .entry)) count (now (memo .entry)) s
+        → Placing g (now (work .entry)) (job .count) (now (places .entry))
+        → Whole g job r → 0 < union
+        → Finished g old birthdate n
+        (map (entryAt (job .state) (job .letter) birthdate (job .field)) (subRuns g old (job .state) (job .letter) (job .end) r 0 union))
+        s (now (table .exit)) x (now (memo .exit))) ⌝ }
+    ensures { λ _. ⌜ length (now (table .exit)) ≡ length (now (table .entry)) ⌝ }
+    ensures { λ _. ⌜ length (now (memo .exit)) ≡ length (now (memo .entry)) ⌝ }
+{
+    let tag = tag_of(job.state, job.letter, r);
+    if is_finished(memo, tag, 0, union) {
+        return count;
+    }
+    let filled = rules_from(job, rules, places, work, table, memo, count, r + 1, union);
+    finish(memo, tag, 0, union);
+    filled
+}
+
+// One transition for each of the states of a set, then the job's later rules. A level is a set of
+// states left, the union in hand and the next entry to take; the highest state left is passed by each of its transitions in
+// turn, and a transition that the memo does not have opens the level of the states below. The levels above the last one
+// wait in three arrays: there are no more than states.
+fn pass_states(
+    job: Job,
+    rules: &[u8],
+    places: &[usize],
+    work: &[u32],
+    table: &mut [u32],
+    memo: &mut [u32],
+    count: usize,
+    r: usize,
+    set: u32,
+    reached: u32,
+) -> usize
+    requires { ⌜ Able job (length (now rules)) (length (now work)) × (r < job .end) × (0 < set) ⌝ }
+    ensures { λ x. ⌜ ((g : PushdownGame) (old : List Entry) (birthdate n : ℕ) (s : Growing)
+        → Entered g old birthdate n job (now (rules .entry)) (now (work .entry)) (now (table .entry)) count (now (memo .entry)) s
+        → Placing g (now (work .entry)) (job .count) (now (places .entry))
+        → Whole g job r → set < 2 ^ g .states
+        → Finished g old birthdate n
+        (map (entryAt (job .state) (job .letter) birthdate (job .field)) (subRuns g old (job .state) (job .letter) (job .end) r set reached))
+        s (now (table .exit)) x (now (memo .exit))) ⌝ }
+    ensures { λ _. ⌜ length (now (table .exit)) ≡ length (now (table .entry)) ⌝ }
+    ensures { λ _. ⌜ length (now (memo .exit)) ≡ length (now (memo .entry)) ⌝ }
+{
+    let tag = tag_of(job.state, job.letter, r);
+    let below = rules[r * Game::RULE_STRIDE + 5];
+    let mut lefts = [0u32; Game::MAX_STATES as usize];
+    let mut unions = [0u32; Game::MAX_STATES as usize];
+    let mut nexts = [0usize; Game::MAX_STATES as usize];
+    let mut depth = 0;
+    let mut filled = count;
+    let mut left = set;
+    let mut union = reached;
+    let mut i = start_at(places, job.count, highest(set), below);
+    loop {
+        let q = highest(left);
+        let rest = left % (1u32 << q);
+        let end = end_at(places, job.count, q, below);
+        let found = next_open(work, memo, tag, rest, union, i, end);
+        if end <= found {
+            if depth == 0 {
+                return filled;
+            }
+            finish(memo, tag, left, union);
+            depth -= 1;
+            left = lefts[depth];
+            union = unions[depth];
+            i = nexts[depth];
+            continue;
+        }
+        let passed = union | work[found * EntryWords::STRIDE + 1];
+        if rest == 0 {
+            filled = rules_after(job, rules, places, work, table, memo, filled, r, passed);
+            i = found + 1;
+            continue;
+        }
+        lefts[depth] = left;
+        unions[depth] = union;
+        nexts[depth] = found + 1;
+        depth += 1;
+        left = rest;
+        union = passed;
+        i = start_at(places, job.count, highest(rest), below);
+    }
+}
+
+// The first place from `from` on, up to `end`, of an entry that the memo does not have: its set, united with what was passed,
+// with the states `rest` left.
+fn next_open(
+    work: &[u32],
+    memo: &[u32],
+    tag: u32,
+    rest: u32,
+    union: u32,
+    from: usize,
+    end: usize,
+) -> usize
+    requires { ⌜ end * 3 ≤ length (now work) ⌝ }
+    ensures { λ r. ⌜ Skipped (now (work .entry)) (now (memo .entry)) tag rest union from end r ⌝ }
+{
+    let mut i = from;
+    while i < end {
+        let passed = union | work[i * EntryWords::STRIDE + 1];
+        if !is_finished(memo, tag, rest, passed) {
+            return i;
+        }
+        i += 1;
+    }
+    i
 }

@@ -1,9 +1,8 @@
 -- A rule that writes nothing has one run, whose end is the state that it goes to; any other has those that begin with an entry of
 -- the old round. Either way the function that is called leaves the list of run i. Assumes what the contract requires.
 use native.Mathlib.Omega.{arith}
-use lib.Pow.{pow-pos}
-use borrow.Author.Needs.{needs}
 use Rattle.solver.proofs.RoundTurns.{runs-written, passed-some, popped, written}
+use borrow.Author.Needs.{needs}
 use Rattle.solver.proofs.round.run_at.Statement.{statement}
 use Rattle.solver.proofs.round.run_at.Tie as tie
 
@@ -25,8 +24,8 @@ shared-slice-read-joined c = search needs
 joined-requires : tie.Need-joined-requires
 joined-requires c κs = search needs
 
-left-over-requires : tie.Need-left-over-requires
-left-over-requires c κs = search needs
+rules-after-requires : tie.Need-rules-after-requires
+rules-after-requires c κs = search needs
 
 same-length : tie.Need-same-length
 same-length c = search needs
@@ -35,25 +34,10 @@ same-length-2 : tie.Need-same-length-2
 same-length-2 c = search needs
 
 returns : tie.Need-returns
-returns c =
-    let test = c .before .before .before .before .before .before .before .before .before in
-    let start = test .before .before .before .before .before .before in
-    let a = start .args in
-    let joins = c .before .before .before .before .before .before .before .joined in
-    let promise = c .before .before .before .before .left-over .ensures in (
-      λ g old birthdate n s h w.
-          rw (← popped g old birthdate n _ _ (a .work .now) (a .table .now) _ (a .memo .now) s h (a .r) (start .pre .1) (joins .result) (joins .ensures) (test .if1 .taken) (a .i))
-          (promise .0 g old birthdate n s h w (pow-pos (g .states))
-          (passed-some g old birthdate n _ _ (a .work .now) (a .table .now) _ (a .memo .now) s h (a .r) (start .pre .1) (joins .result) (joins .ensures))),
-      promise .1,
-    )
+returns c = (λ g old birthdate n s h pl w. rw (← popped g old birthdate n _ _ (c .before .before .before .before .before .before .before .before .before .before .before .before .before .before .before .before .args .work .now) (c .before .before .before .before .before .before .before .before .before .before .before .before .before .before .before .before .args .table .now) _ (c .before .before .before .before .before .before .before .before .before .before .before .before .before .before .before .before .args .memo .now) s h (c .before .before .before .before .before .before .before .before .before .before .before .before .before .before .before .before .args .r) (c .before .before .before .before .before .before .before .before .before .before .before .before .before .before .before .before .pre .1) (c .before .before .before .before .before .before .before .joined .result) (c .before .before .before .before .before .before .before .joined .ensures) (c .before .before .before .before .before .before .before .before .before .if1 .taken) (c .before .before .before .before .before .before .before .before .before .before .before .before .before .before .before .before .args .i)) (c .before .before .before .before .rules-after .ensures .0 g old birthdate n s h pl w (passed-some g old birthdate n _ _ (c .before .before .before .before .before .before .before .before .before .before .before .before .before .before .before .before .args .work .now) (c .before .before .before .before .before .before .before .before .before .before .before .before .before .before .before .before .args .table .now) _ (c .before .before .before .before .before .before .before .before .before .before .before .before .before .before .before .before .args .memo .now) s h (c .before .before .before .before .before .before .before .before .before .before .before .before .before .before .before .before .args .r) (c .before .before .before .before .before .before .before .before .before .before .before .before .before .before .before .before .pre .1) (c .before .before .before .before .before .before .before .joined .result) (c .before .before .before .before .before .before .before .joined .ensures))), c .before .before .before .before .rules-after .ensures .1)
 
 runs-with-requires : tie.Need-runs-with-requires
-runs-with-requires c κs =
-    let test = c .before .before in
-    let start = test .before .before .before .before .before .before in
-    let many = runs-written (start .args .rules .now) (start .args .r) (start .args .job .count) (test .if1 .left) in
-    (start .pre .0, start .pre .1, omega (arith, start .pre .2, many))
+runs-with-requires c κs = (c .before .before .before .before .before .before .before .before .before .pre .0, c .before .before .before .before .before .before .before .before .before .pre .1, omega (arith, c .before .before .before .before .before .before .before .before .before .pre .2, runs-written (c .before .before .before .before .before .before .before .before .before .args .rules .now) (c .before .before .before .before .before .before .before .before .before .args .r) (c .before .before .before .before .before .before .before .before .before .args .job .count) (c .before .before .if1 .left)))
 
 same-length-3 : tie.Need-same-length-3
 same-length-3 c = search needs
@@ -62,16 +46,7 @@ same-length-4 : tie.Need-same-length-4
 same-length-4 c = search needs
 
 returns-2 : tie.Need-returns-2
-returns-2 c =
-    let test = c .before .before .before .before .before .before .before in
-    let start = test .before .before .before .before .before .before in
-    let a = start .args in
-    let promise = c .before .before .before .before .runs-with .ensures in (
-      λ g old birthdate n s h w.
-          rw (← written g old birthdate n _ _ (a .work .now) (a .table .now) _ (a .memo .now) s h (a .r) (start .pre .1) (test .if1 .left) (a .i))
-          (promise .0 g old birthdate n s h w),
-      promise .1,
-    )
+returns-2 c = (λ g old birthdate n s h pl w. rw (← written g old birthdate n _ _ (c .before .before .before .before .before .before .before .before .before .before .before .before .before .before .args .work .now) (c .before .before .before .before .before .before .before .before .before .before .before .before .before .before .args .table .now) _ (c .before .before .before .before .before .before .before .before .before .before .before .before .before .before .args .memo .now) s h (c .before .before .before .before .before .before .before .before .before .before .before .before .before .before .args .r) (c .before .before .before .before .before .before .before .before .before .before .before .before .before .before .pre .1) (c .before .before .before .before .before .before .before .if1 .left) (c .before .before .before .before .before .before .before .before .before .before .before .before .before .before .args .i)) (c .before .before .before .before .runs-with .ensures .0 g old birthdate n s h pl w), c .before .before .before .before .runs-with .ensures .1)
 
 pub run-at-spec : {M : Type 1} → statement M
 run-at-spec =
@@ -83,7 +58,7 @@ run-at-spec =
     add-joined
     shared-slice-read-joined
     joined-requires
-    left-over-requires
+    rules-after-requires
     same-length
     same-length-2
     returns
