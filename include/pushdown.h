@@ -39,8 +39,8 @@
  *
  * Stack
  *
- * Reading, judging and moving need at most 1 MiB of stack. For solving see
- * docs/CONTRACT.md, "What is outside".
+ * Every function needs at most 1 MiB of stack, whatever the file, the words and
+ * the position are. docs/CONTRACT.md, "What is outside", has what was measured.
  */
 #ifndef PUSHDOWN_H
 #define PUSHDOWN_H
