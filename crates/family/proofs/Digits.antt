@@ -1,7 +1,7 @@
 -- Bits of words: of both, of either, of a shift, and of the words of sets that have a state.
 use Prim.Native.Nat.{ℕ, _+_, _*_, _-_, _/_, _%_, _^_, _<_, _≤_, min, max}
 use native.Mathlib.Omega.{arith}
-use native.Mathlib.Nat.{mod-lt, one-mul, mod-eq-of-lt, add-mul-div-right}
+use native.Mathlib.Nat.{mod-lt, one-mul, mod-eq-of-lt, add-mul-div-right, div-one}
 use mathlib.Core.Path.{_≡_, refl, sym, ap, _∙_}
 use mathlib.Core.Logic.{⊎-elim}
 use mathlib.Core.Bool.{Bool, true, false, _&&_, _||_}
@@ -9,8 +9,9 @@ use lib.Bits.{bitAnd, bitOr, and-shr, or-shr, and-step, or-step}
 use lib.Pow.{pow-lt, pow-pos, field, shl-shr, shr-shr, mod-mod-pow}
 use lib.Dec.{eqb, ltb}
 use borrow.Author.Tests.{eqb-true, eqb-false, eq-eqb, ne-eqb, ltb-true, ltb-false}
-use Rattle.game.specs.Sets.{has}
-use Rattle.game.specs.SetLaws.{has-above}
+use lib.Arith.{bin-ind}
+use Rattle.game.specs.Sets.{has, union}
+use Rattle.game.specs.SetLaws.{has-above, none-has}
 use Rattle.game.specs.ListLaws.{allBelow-at, test, clash}
 use Rattle.game.specs.Questions.{allBelow}
 
@@ -205,3 +206,64 @@ digit-cleared i k on =
 pub has-high : (y k : ℕ) → has y (6 + k) ≡ has (y / 64) k
 unfolding has
 has-high y k = ap (λ (z : ℕ). eqb (z % 2) 1) (sym (shr-shr y 6 k))
+
+-- numbers with the same digits are the same
+has-half : (a s : ℕ) → has (a / 2) s ≡ has a (1 + s)
+unfolding has
+has-half a s = ap (λ (x : ℕ). eqb (x % 2) 1) (shr-shr a 1 s)
+
+last-of : (a b : ℕ) → has a 0 ≡ has b 0 → a % 2 ≡ b % 2
+unfolding has
+last-of a b e =
+    ⊎-elim
+    (λ (t : eqb (a / 2 ^ 0 % 2) 1 ≡ true).
+    omega (arith, eqb-true (a / 2 ^ 0 % 2) 1 t, eqb-true (b / 2 ^ 0 % 2) 1 (sym e ∙ t), div-one a, div-one b))
+    (λ (t : eqb (a / 2 ^ 0 % 2) 1 ≡ false).
+    omega (arith, eqb-false (a / 2 ^ 0 % 2) 1 t, eqb-false (b / 2 ^ 0 % 2) 1 (sym e ∙ t), div-one a, div-one b))
+    (test (eqb (a / 2 ^ 0 % 2) 1))
+
+None : ℕ → Type 0
+None b = ((s : ℕ) → has b s ≡ false) → b ≡ 0
+
+none-zero : None 0
+unfolding None
+none-zero h = refl
+
+none-step : (b : ℕ) → None (b / 2) → None b
+unfolding None
+none-step b ih h =
+    let half = ih (λ s. has-half b s ∙ h (1 + s)) in
+    let last = last-of b 0 (h 0 ∙ sym (none-has 0)) in
+    omega (arith, half, last)
+
+Same : ℕ → Type 0
+Same a = (b : ℕ) → ((s : ℕ) → has a s ≡ has b s) → a ≡ b
+
+same-zero : Same 0
+unfolding Same None
+same-zero b h = sym (bin-ind None none-zero none-step b (λ s. sym (h s) ∙ none-has s))
+
+same-step : (a : ℕ) → Same (a / 2) → Same a
+unfolding Same
+same-step a ih b h =
+    let half = ih (b / 2) (λ s. has-half a s ∙ h (1 + s) ∙ sym (has-half b s)) in
+    let last = last-of a b (h 0) in
+    omega (arith, half, last)
+
+pub same-digits : (a b : ℕ) → ((s : ℕ) → has a s ≡ has b s) → a ≡ b
+unfolding Same
+same-digits a b h = bin-ind Same same-zero same-step a b h
+
+-- so unions are associative
+pub union-assoc : (a b c : ℕ) → union (union a b) c ≡ union a (union b c)
+union-assoc a b c =
+    same-digits (union (union a b) c) (union a (union b c))
+    (λ s.
+    has-or (union a b) c s
+    ∙ ap (_|| has c s) (has-or a b s)
+    ∙ either-way (has a s) (has b s) (has c s)
+    ∙ sym (has-or a (union b c) s ∙ ap (has a s ||_) (has-or b c s)))
+  where
+    either-way : (x y z : Bool) → ((x || y) || z) ≡ (x || (y || z))
+    either-way true y z = refl
+    either-way false y z = refl

@@ -1,9 +1,9 @@
 // A family of sets as words of 64 bits: set x is in it if bit x % 64 of word x / 64 is 1.
 ghost use mathlib.Core.Path.{_≡_};
 ghost use mathlib.Core.Bool.{_&&_, _||_};
-ghost use Prim.Native.Nat.{ℕ, _+_, _*_, _-_, _/_, _^_, _<_, _≤_};
+ghost use Prim.Native.Nat.{ℕ, _-_, _/_, _^_, _<_, _≤_};
 ghost use lib.Dec.{eqb};
-ghost use lib.ListN.{length, getD};
+ghost use lib.ListN.{length};
 ghost use Rattle.game.specs.Sets.{has};
 ghost use Rattle.family.specs.Family.{inside, withState, Wide, joined, Paired};
 

@@ -2,7 +2,9 @@
 //
 // It leaves out where families come from and what they are for, which is the solver's.
 mod bits;
+mod product;
 
 pub use bits::add_state;
 pub use bits::has_set;
 pub use bits::put_set;
+pub use product::unite;
