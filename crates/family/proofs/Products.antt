@@ -8,7 +8,7 @@ use mathlib.Core.Bool.{true, false, _||_}
 use mathlib.Core.List.{List}
 use lib.ListN.{length, getD, set, length-set}
 use lib.Seq.{getD-set-same, getD-set-other}
-use lib.Bits.{bitAnd, bitOr, and-high, or-add-and, or-shifted, or-zero-l, or-zero-r}
+use lib.Bits.{bitOr, or-shifted, or-zero-l, or-zero-r}
 use lib.Pow.{pow-pos, pow-lt, pow-mono, pow-add, split}
 use lib.Count.{leadingZeros, leading-top}
 use lib.Dec.{eqb, ltb}
@@ -17,29 +17,9 @@ use Rattle.game.specs.Sets.{has, union}
 use Rattle.game.specs.SetLaws.{union-below, union-has, left-union, right-union, single-has, has-single, has-above, none-has}
 use Rattle.game.specs.ListLaws.{test, clash, both, conj, either, left-or, right-or}
 use Rattle.family.specs.Family.{inside, withState, Wide, WideFor, Lifted, Grown, InFamily, UnionWith, UnionIn, UnionOf}
+use Rattle.family.specs.Widths.{union-same, union-more}
 use Rattle.family.proofs.Digits.{union-assoc, has-or, has-low, has-high, state-within, digit-set, digit-cleared}
 use Rattle.family.proofs.States.{beyond}
-
--- a set and a state: the set has it, or gets it
-and-single : (z e : ℕ) → bitAnd z (2 ^ e) ≡ z / 2 ^ e % 2 * 2 ^ e
-and-single z e =
-    let one : 2 ^ (1 + e) - 2 ^ e ≡ 2 ^ e = omega (arith, pow-add 2 1 e) in
-    ap (bitAnd z) (sym one) ∙ and-high z 1 e
-
-union-same : (z e : ℕ) → has z e ≡ true → union z (2 ^ e) ≡ z
-unfolding has
-union-same z e h =
-    let digit = eqb-true (z / 2 ^ e % 2) 1 h in
-    let both = and-single z e ∙ ap (λ (d : ℕ). d * 2 ^ e) digit ∙ one-mul (2 ^ e) in
-    omega (arith, or-add-and z (2 ^ e), both)
-
-union-more : (z e : ℕ) → has z e ≡ false → union z (2 ^ e) ≡ z + 2 ^ e
-unfolding has
-union-more z e h =
-    let none = eqb-false (z / 2 ^ e % 2) 1 h in
-    let digit : z / 2 ^ e % 2 ≡ 0 = omega (arith, none) in
-    let both = and-single z e ∙ ap (λ (d : ℕ). d * 2 ^ e) digit in
-    omega (arith, or-add-and z (2 ^ e), both)
 
 -- a set of a family is within its words
 inside-words : (family : List ℕ) (y : ℕ) → inside family y ≡ true → y / 64 < length family
@@ -213,7 +193,7 @@ PassedIn a word from rest y = (s : ℕ) × (s < 64) × (has word s ≡ true) × 
 pub record Wording (a old : List ℕ) (word from : ℕ) (out : List ℕ) (rest : ℕ) : Type 0 where
   pub small : rest < 2 ^ 64
   pub part : (s : ℕ) → has rest s ≡ true → has word s ≡ true
-  pub grown : ((x : ℕ) → WideFor (length a) x) → Grown old (PassedIn a word from rest) out
+  pub grown : ((s : ℕ) → s < 64 → has word s ≡ true → WideFor (length a) (from + s)) → Grown old (PassedIn a word from rest) out
 
 pub wording-starts : (a old : List ℕ) (word from : ℕ) → word < 2 ^ 64 → Wording a old word from old word
 wording-starts a old word from small =
@@ -233,7 +213,7 @@ wording-more a old word from out rest w j t l after more =
       grown =
           λ wide.
           let g = w .grown wide in
-          let m = more (wide (from + j)) in
+          let m = more (wide j l (w .part j (top-has rest j t))) in
           record {
             from =
                 λ y h.
@@ -263,7 +243,7 @@ wording-more a old word from out rest w j t l after more =
         ⊎-elim (λ (u : has (rest % 2 ^ j) s ≡ true). clash (rest-has rest j t s u) off) (λ u. u) (test (has (rest % 2 ^ j) s))
 
 pub wording-ends : (a old : List ℕ) (word from : ℕ) (out : List ℕ) (rest : ℕ) → Wording a old word from out rest → rest ≡ 0
-    → ((x : ℕ) → WideFor (length a) x) → Grown old (UnionIn a word from) out
+    → ((s : ℕ) → s < 64 → has word s ≡ true → WideFor (length a) (from + s)) → Grown old (UnionIn a word from) out
 wording-ends a old word from out rest w none wide =
     let g = w .grown wide in
     record {
@@ -277,21 +257,27 @@ abbrev PassedOf : List ℕ → List ℕ → ℕ → ℕ → Type 0
 PassedOf a b i y = (x : ℕ) × (x / 64 < i) × (inside b x ≡ true) × UnionWith a x y
 
 pub record Uniting (a b old out : List ℕ) (i : ℕ) : Type 0 where
-  pub grown : ((x : ℕ) → WideFor (length a) x) → Grown old (PassedOf a b i) out
+  pub grown : ((x : ℕ) → inside b x ≡ true → WideFor (length a) x) → Grown old (PassedOf a b i) out
 
 pub uniting-starts : (a b old : List ℕ) → Uniting a b old old 0
 uniting-starts a b old =
     record { grown = λ wide. record { from = λ y h. inl h; kept = λ y h. h; into = λ y p. absurd (omega (arith, p .1)) } }
 
 pub uniting-more : (a b old out : List ℕ) (i : ℕ) → Uniting a b old out i → (after : List ℕ)
-    → (((x : ℕ) → WideFor (length a) x) → Grown out (UnionIn a (getD b i 0) (i * 64)) after) → Uniting a b old after (i + 1)
+    → (((s : ℕ) → s < 64 → has (getD b i 0) s ≡ true → WideFor (length a) (i * 64 + s)) → Grown out (UnionIn a (getD b i 0) (i * 64)) after) → Uniting a b old after (i + 1)
 unfolding inside
 uniting-more a b old out i u after more =
     record {
       grown =
           λ wide.
           let g = u .grown wide in
-          let m = more wide in
+          let m =
+          more
+          (λ s l h.
+          let word : (i * 64 + s) / 64 ≡ i = omega arith in
+          let bit : (i * 64 + s) % 64 ≡ s = omega arith in
+          wide (i * 64 + s) (rw (word, bit) h))
+          in
           record {
             from =
                 λ y h.
@@ -320,7 +306,7 @@ uniting-more a b old out i u after more =
           };
     }
 
-pub uniting-ends : (a b old out : List ℕ) (i : ℕ) → Uniting a b old out i → length b ≤ i → ((x : ℕ) → WideFor (length a) x) → Grown old (UnionOf a b) out
+pub uniting-ends : (a b old out : List ℕ) (i : ℕ) → Uniting a b old out i → length b ≤ i → ((x : ℕ) → inside b x ≡ true → WideFor (length a) x) → Grown old (UnionOf a b) out
 uniting-ends a b old out i u l wide =
     let g = u .grown wide in
     record {

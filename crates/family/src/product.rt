@@ -1,14 +1,16 @@
 // The unions of a set of one family with a set of another.
 use crate::bits::add_state;
 ghost use mathlib.Core.Path.{_≡_};
+ghost use mathlib.Core.Bool.{true};
 ghost use Prim.Native.Nat.{ℕ, _+_, _<_, _≤_};
 ghost use lib.ListN.{length};
-ghost use Rattle.family.specs.Family.{WideFor, Lifted, Grown, UnionOf, UnionWith, UnionIn, InFamily};
+ghost use Rattle.game.specs.Sets.{has};
+ghost use Rattle.family.specs.Family.{inside, WideFor, Lifted, Grown, UnionOf, UnionWith, UnionIn, InFamily};
 
 // Puts into `out` every union of a set of `a` with a set of `b`. All have the same length, and what `spare` held is lost.
 pub fn unite(out: &mut [u64], a: &[u64], b: &[u64], spare: &mut [u64])
     requires { ⌜ (length (now a) ≡ length (now spare)) × (length (now out) ≡ length (now spare)) × (length (now b) ≤ 16) ⌝ }
-    ensures { λ _. ⌜ (((x : ℕ) → WideFor (length (now (a .entry))) x)
+    ensures { λ _. ⌜ (((x : ℕ) → inside (now (b .entry)) x ≡ true → WideFor (length (now (a .entry))) x)
         → Grown (now (out .entry)) (UnionOf (now (a .entry)) (now (b .entry))) (now (out .exit))) ⌝ }
     ensures { λ _. ⌜ length (now (out .exit)) ≡ length (now (out .entry)) ⌝ }
     ensures { λ _. ⌜ length (now (spare .exit)) ≡ length (now (spare .entry)) ⌝ }
@@ -23,7 +25,7 @@ pub fn unite(out: &mut [u64], a: &[u64], b: &[u64], spare: &mut [u64])
 // The same with the sets of one word, the first of which is `from`, the highest set first.
 fn unite_word(out: &mut [u64], a: &[u64], word: u64, from: usize, spare: &mut [u64])
     requires { ⌜ (length (now a) ≡ length (now spare)) × (length (now out) ≡ length (now spare)) × (from + 64 ≤ 1024) ⌝ }
-    ensures { λ _. ⌜ (((x : ℕ) → WideFor (length (now (a .entry))) x)
+    ensures { λ _. ⌜ (((s : ℕ) → s < 64 → has word s ≡ true → WideFor (length (now (a .entry))) (from + s))
         → Grown (now (out .entry)) (UnionIn (now (a .entry)) word from) (now (out .exit))) ⌝ }
     ensures { λ _. ⌜ length (now (out .exit)) ≡ length (now (out .entry)) ⌝ }
     ensures { λ _. ⌜ length (now (spare .exit)) ≡ length (now (spare .entry)) ⌝ }
