@@ -1,17 +1,17 @@
--- Bits of words: of both, of either, of a shift, and of the words of sets that have a state.
-use Prim.Native.Nat.{ℕ, _+_, _*_, _-_, _/_, _%_, _^_, _<_, _≤_, min, max}
+-- Bits of words: of both, of either, of one without the other, of a shift, of the words of sets that have a state, and of a set with a state more.
+use Prim.Native.Nat.{ℕ, zero, suc, _+_, _*_, _-_, _/_, _%_, _^_, _<_, _≤_, min, max}
 use native.Mathlib.Omega.{arith}
-use native.Mathlib.Nat.{mod-lt, one-mul, mod-eq-of-lt, add-mul-div-right, div-one}
+use native.Mathlib.Nat.{mod-lt, one-mul, mod-eq-of-lt, add-mul-div-right}
 use mathlib.Core.Path.{_≡_, refl, sym, ap, _∙_}
 use mathlib.Core.Logic.{⊎-elim}
-use mathlib.Core.Bool.{Bool, true, false, _&&_, _||_}
-use lib.Bits.{bitAnd, bitOr, and-shr, or-shr, and-step, or-step}
-use lib.Pow.{pow-lt, pow-pos, field, shl-shr, shr-shr, mod-mod-pow}
+use mathlib.Core.Bool.{Bool, true, false, not, _&&_, _||_}
+use lib.Bits.{bitAnd, bitOr, bitXor, differ, and-shr, or-shr, xor-shr, and-step, or-step, xor-step, and-high, or-add-and}
+use lib.Pow.{pow-lt, pow-pos, pow-add, field, shl-shr, shr-shr, mod-mod-pow}
 use lib.Dec.{eqb, ltb}
 use borrow.Author.Tests.{eqb-true, eqb-false, eq-eqb, ne-eqb, ltb-true, ltb-false}
-use lib.Arith.{bin-ind}
+use lib.Arith.{digits-mod}
 use Rattle.game.specs.Sets.{has, union}
-use Rattle.game.specs.SetLaws.{has-above, none-has}
+use Rattle.game.specs.SetLaws.{has-above}
 use Rattle.game.specs.ListLaws.{allBelow-at, test, clash}
 use Rattle.game.specs.Questions.{allBelow}
 
@@ -41,18 +41,18 @@ one-is m n l k =
     (test (eqb m 1))
 
 and-last : (a b : ℕ) → bitAnd a b % 2 ≡ min (a % 2) (b % 2)
-and-last a b = omega (arith, and-step a b, mod-lt a (two), mod-lt b (two))
+and-last a b = omega (arith, and-step a b, mod-lt a two, mod-lt b two)
   where
     two : 0 < 2
     two = omega arith
 
 or-last : (a b : ℕ) → bitOr a b % 2 ≡ max (a % 2) (b % 2)
-or-last a b = omega (arith, or-step a b, mod-lt a (two), mod-lt b (two))
+or-last a b = omega (arith, or-step a b, mod-lt a two, mod-lt b two)
   where
     two : 0 < 2
     two = omega arith
 
-pub has-and : (a b s : ℕ) → has (bitAnd a b) s ≡ (has a s && has b s)
+has-and : (a b s : ℕ) → has (bitAnd a b) s ≡ (has a s && has b s)
 unfolding has
 has-and a b s =
     let x = a / 2 ^ s in
@@ -70,8 +70,39 @@ has-or a b s =
     ∙ ap (λ (z : ℕ). eqb z 1) (or-last x y)
     ∙ one-is (x % 2) (y % 2) (mod-lt x (omega arith)) (mod-lt y (omega arith))
 
+-- of two digits: the first is 1 and the second is not
+less-one : (m n : ℕ) → m < 2 → n < 2 → eqb (differ m (min m n)) 1 ≡ (eqb m 1 && not (eqb n 1))
+less-one zero zero l k = refl
+less-one zero (suc zero) l k = refl
+less-one zero (suc (suc n)) l k = absurd (omega arith)
+less-one (suc zero) zero l k = refl
+less-one (suc zero) (suc zero) l k = refl
+less-one (suc zero) (suc (suc n)) l k = absurd (omega arith)
+less-one (suc (suc m)) n l k = absurd (omega arith)
+
+differ-small : (m n : ℕ) → m < 2 → n < 2 → differ m n < 2
+differ-small zero n l k = k
+differ-small (suc zero) zero l k = l
+differ-small (suc zero) (suc zero) l k = omega arith
+differ-small (suc zero) (suc (suc n)) l k = absurd (omega arith)
+differ-small (suc (suc m)) n l k = absurd (omega arith)
+
+xor-last : (a b : ℕ) → bitXor a b % 2 ≡ differ (a % 2) (b % 2)
+xor-last a b =
+    ap (λ (z : ℕ). z % 2) (xor-step a b)
+    ∙ digits-mod (bitXor (a / 2) (b / 2)) (differ-small (a % 2) (b % 2) (mod-lt a (omega arith)) (mod-lt b (omega arith)))
+
+pub has-less : (a b s : ℕ) → has (bitXor a (bitAnd a b)) s ≡ (has a s && not (has b s))
+unfolding has
+has-less a b s =
+    let x = a / 2 ^ s in
+    let y = b / 2 ^ s in
+    ap (λ (z : ℕ). eqb (z % 2) 1) (xor-shr a (bitAnd a b) s ∙ ap (bitXor x) (and-shr a b s))
+    ∙ ap (λ (z : ℕ). eqb z 1) (xor-last x (bitAnd x y) ∙ ap (differ (x % 2)) (and-last x y))
+    ∙ less-one (x % 2) (y % 2) (mod-lt x (omega arith)) (mod-lt y (omega arith))
+
 -- a word shifted within 64 bits
-pub has-shifted : (w k s : ℕ) → k ≤ s → s < 64 → has (w * 2 ^ k % 2 ^ 64) s ≡ has w (s - k)
+has-shifted : (w k s : ℕ) → k ≤ s → s < 64 → has (w * 2 ^ k % 2 ^ 64) s ≡ has w (s - k)
 unfolding has
 has-shifted w k s l m =
     let whole : 64 ≡ (63 - s) + 1 + s = omega arith in
@@ -84,7 +115,7 @@ has-shifted w k s l m =
     (ap (λ (z : ℕ). n / 2 ^ z) sum ∙ sym (shr-shr n k (s - k)) ∙ ap (λ (z : ℕ). z / 2 ^ (s - k)) (shl-shr w k))
 
 -- two tests that agree on every number below n
-abbrev pub agree : Bool → Bool → Bool
+abbrev agree : Bool → Bool → Bool
 agree true b = b
 agree false true = false
 agree false false = true
@@ -95,7 +126,7 @@ agreed false true e = e
 agreed false false e = refl
 
 -- the sets below 64 that have a state, as a word
-pub has-state : (word e : ℕ) → allBelow 64 (λ s. agree (has word s) (has s e)) ≡ true → (s : ℕ) → s < 64 → has word s ≡ has s e
+has-state : (word e : ℕ) → allBelow 64 (λ s. agree (has word s) (has s e)) ≡ true → (s : ℕ) → s < 64 → has word s ≡ has s e
 has-state word e all s l = agreed (has word s) (has s e) (allBelow-at 64 (λ k. agree (has word k) (has k e)) all s l)
 
 pub zero-sets : (s : ℕ) → s < 64 → has 12297829382473034410 s ≡ has s 0
@@ -156,20 +187,15 @@ with-more w mask e s m l =
     and-false true = refl
     and-false false = refl
 
--- one digit shifted by a state below 6
+-- one digit shifted within 64 bits, and by a state below 6
+pub digit-shift : (j : ℕ) → j < 64 → 1 * 2 ^ j % 2 ^ 64 ≡ 2 ^ j
+digit-shift j l = rw one-mul (mod-eq-of-lt (pow-lt {j = 64} l))
+
 pub shift-is : (e : ℕ) → e < 6 → 1 * 2 ^ e % 4294967296 ≡ 2 ^ e
 shift-is e l = rw one-mul (mod-eq-of-lt (pow-lt {j = 32} (omega arith)))
 
 pub shift-small : (e : ℕ) → e < 6 → 1 * 2 ^ e % 4294967296 < 64
 shift-small e l = rw (shift-is e l) (pow-lt {j = 6} l)
-
--- a state below 6 of a set stands in its last six digits
-pub has-low : (y e : ℕ) → e < 6 → has (y % 64) e ≡ has y e
-unfolding has
-has-low y e l =
-    let six : 6 ≡ (5 - e) + 1 + e = omega arith in
-    ap (λ (z : ℕ). eqb (z % 2) 1) (ap (λ (z : ℕ). y % 2 ^ z / 2 ^ e) six ∙ field y ((5 - e) + 1) e)
-    ∙ ap (λ (z : ℕ). eqb z 1) (mod-mod-pow (y / 2 ^ e) (5 - e) 1)
 
 -- a number with a digit more or less
 pub digit-set : (j k : ℕ) → has j k ≡ false → has (j + 2 ^ k) k ≡ true
@@ -181,7 +207,7 @@ digit-set j k off =
     in
     eq-eqb ((j + 2 ^ k) / 2 ^ k % 2) 1 (omega (arith, sum, none))
 
-pub digit-carried : (j k : ℕ) → has j k ≡ true → has (j + 2 ^ k) k ≡ false
+digit-carried : (j k : ℕ) → has j k ≡ true → has (j + 2 ^ k) k ≡ false
 unfolding has
 digit-carried j k on =
     let one = eqb-true (j / 2 ^ k % 2) 1 on in
@@ -202,68 +228,23 @@ digit-cleared i k on =
     (λ (t : has (i - 2 ^ k) k ≡ false). t)
     (test (has (i - 2 ^ k) k))
 
--- a state from 6 on of a set is one of the place of its word
-pub has-high : (y k : ℕ) → has y (6 + k) ≡ has (y / 64) k
+-- a set and a state: the set has it, or gets it
+and-single : (z e : ℕ) → bitAnd z (2 ^ e) ≡ z / 2 ^ e % 2 * 2 ^ e
+and-single z e =
+    let one : 2 ^ (1 + e) - 2 ^ e ≡ 2 ^ e = omega (arith, pow-add 2 1 e) in
+    ap (bitAnd z) (sym one) ∙ and-high z 1 e
+
+pub union-same : (z e : ℕ) → has z e ≡ true → union z (2 ^ e) ≡ z
 unfolding has
-has-high y k = ap (λ (z : ℕ). eqb (z % 2) 1) (sym (shr-shr y 6 k))
+union-same z e h =
+    let digit = eqb-true (z / 2 ^ e % 2) 1 h in
+    let both = and-single z e ∙ ap (λ (d : ℕ). d * 2 ^ e) digit ∙ one-mul (2 ^ e) in
+    omega (arith, or-add-and z (2 ^ e), both)
 
--- numbers with the same digits are the same
-has-half : (a s : ℕ) → has (a / 2) s ≡ has a (1 + s)
+pub union-more : (z e : ℕ) → has z e ≡ false → union z (2 ^ e) ≡ z + 2 ^ e
 unfolding has
-has-half a s = ap (λ (x : ℕ). eqb (x % 2) 1) (shr-shr a 1 s)
-
-last-of : (a b : ℕ) → has a 0 ≡ has b 0 → a % 2 ≡ b % 2
-unfolding has
-last-of a b e =
-    ⊎-elim
-    (λ (t : eqb (a / 2 ^ 0 % 2) 1 ≡ true).
-    omega (arith, eqb-true (a / 2 ^ 0 % 2) 1 t, eqb-true (b / 2 ^ 0 % 2) 1 (sym e ∙ t), div-one a, div-one b))
-    (λ (t : eqb (a / 2 ^ 0 % 2) 1 ≡ false).
-    omega (arith, eqb-false (a / 2 ^ 0 % 2) 1 t, eqb-false (b / 2 ^ 0 % 2) 1 (sym e ∙ t), div-one a, div-one b))
-    (test (eqb (a / 2 ^ 0 % 2) 1))
-
-None : ℕ → Type 0
-None b = ((s : ℕ) → has b s ≡ false) → b ≡ 0
-
-none-zero : None 0
-unfolding None
-none-zero h = refl
-
-none-step : (b : ℕ) → None (b / 2) → None b
-unfolding None
-none-step b ih h =
-    let half = ih (λ s. has-half b s ∙ h (1 + s)) in
-    let last = last-of b 0 (h 0 ∙ sym (none-has 0)) in
-    omega (arith, half, last)
-
-Same : ℕ → Type 0
-Same a = (b : ℕ) → ((s : ℕ) → has a s ≡ has b s) → a ≡ b
-
-same-zero : Same 0
-unfolding Same None
-same-zero b h = sym (bin-ind None none-zero none-step b (λ s. sym (h s) ∙ none-has s))
-
-same-step : (a : ℕ) → Same (a / 2) → Same a
-unfolding Same
-same-step a ih b h =
-    let half = ih (b / 2) (λ s. has-half a s ∙ h (1 + s) ∙ sym (has-half b s)) in
-    let last = last-of a b (h 0) in
-    omega (arith, half, last)
-
-pub same-digits : (a b : ℕ) → ((s : ℕ) → has a s ≡ has b s) → a ≡ b
-unfolding Same
-same-digits a b h = bin-ind Same same-zero same-step a b h
-
--- so unions are associative
-pub union-assoc : (a b c : ℕ) → union (union a b) c ≡ union a (union b c)
-union-assoc a b c =
-    same-digits (union (union a b) c) (union a (union b c))
-    (λ s.
-    has-or (union a b) c s
-    ∙ ap (_|| has c s) (has-or a b s)
-    ∙ either-way (has a s) (has b s) (has c s)
-    ∙ sym (has-or a (union b c) s ∙ ap (has a s ||_) (has-or b c s)))
-  where
-    either-way : (x y z : Bool) → ((x || y) || z) ≡ (x || (y || z))
-    either-way true y z = refl
-    either-way false y z = refl
+union-more z e h =
+    let none = eqb-false (z / 2 ^ e % 2) 1 h in
+    let digit : z / 2 ^ e % 2 ≡ 0 = omega (arith, none) in
+    let both = and-single z e ∙ ap (λ (d : ℕ). d * 2 ^ e) digit in
+    omega (arith, or-add-and z (2 ^ e), both)

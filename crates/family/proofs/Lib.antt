@@ -1,3 +1,4 @@
+pub mod Areas
 pub mod Digits
-pub mod States
-pub mod Products
+pub mod Rows
+pub mod Unions

@@ -1,61 +1,66 @@
--- Families of sets of states, as bits.
-use Prim.Native.Nat.{ℕ, _+_, _*_, _-_, _/_, _%_, _^_, _<_, _≤_}
+-- Families of sets of states as bits: words of 64 sets each, a family's words one after another at a place of an area.
+use Prim.Native.Nat.{ℕ, _+_, _*_, _/_, _%_, _<_, _≤_}
 use mathlib.Core.Path.{_≡_}
 use mathlib.Core.Logic.{_⊎_}
-use mathlib.Core.Bool.{Bool, true, false, cond, _&&_, _||_}
+use mathlib.Core.Bool.{Bool, true, false, not, _&&_, _||_}
 use mathlib.Core.List.{List}
-use lib.ListN.{getD, set}
-use lib.Bits.{bitOr}
+use lib.ListN.{getD}
+use lib.Dec.{eqb}
 use Rattle.game.specs.Sets.{has, union}
 
--- set x is in the family
-unfoldable pub inside : List ℕ → ℕ → Bool
-inside family x = has (getD family (x / 64) 0) (x % 64)
+-- set x is in the family at a place
+unfoldable pub holds : List ℕ → ℕ → ℕ → Bool
+holds words at x = has (getD words (at + x / 64) 0) (x % 64)
 
--- set y is one of the family with state e more
-unfoldable pub withState : List ℕ → ℕ → ℕ → Bool
-withState family e y = has y e && (inside family y || inside family (y - 2 ^ e))
+-- One word: the unions of a set of one with a set of the other, and no other set.
+pub record Unites (a b r : ℕ) : Type 0 where
+  pub from : (s : ℕ) → s < 64 → has r s ≡ true → (y z : ℕ) × (y < 64) × (z < 64) × (has a y ≡ true) × (has b z ≡ true) × (s ≡ union y z)
+  pub into : (y z : ℕ) → y < 64 → z < 64 → has a y ≡ true → has b z ≡ true → has r (union y z) ≡ true
 
--- families that are wide enough for a state: for each word of sets without it there is that of the sets with it
-abbrev pub Wide : ℕ → ℕ → Type 0
-Wide words e = 6 ≤ e → (j : ℕ) → j < words → has j (e - 6) ≡ false → j + 2 ^ (e - 6) < words
+-- One word: every set united with set x.
+pub record Lifts (word x r : ℕ) : Type 0 where
+  pub from : (s : ℕ) → s < 64 → has r s ≡ true → (y : ℕ) × (y < 64) × (has word y ≡ true) × (s ≡ union y x)
+  pub into : (y : ℕ) → y < 64 → has word y ≡ true → has r (union y x) ≡ true
 
--- a word of sets with state 6 + k with those of the word without it, which is left empty
-unfoldable pub joined : List ℕ → ℕ → ℕ → List ℕ
-joined family i k =
-    cond (has i k) (set (set family i (bitOr (getD family i 0) (getD family (i - 2 ^ k) 0))) (i - 2 ^ k) 0) family
+-- The same of families of n words: one at the front of an area, one at a place of another, the unions at the front of a third.
+pub record Product (n : ℕ) (a others : List ℕ) (at : ℕ) (out : List ℕ) : Type 0 where
+  pub from : (x : ℕ) → x / 64 < n → holds out 0 x ≡ true
+      → (y z : ℕ) × (y / 64 < n) × (z / 64 < n) × (holds a 0 y ≡ true) × (holds others at z ≡ true) × (x ≡ union y z)
+  pub into : (y z : ℕ) → y / 64 < n → z / 64 < n → holds a 0 y ≡ true → holds others at z ≡ true → holds out 0 (union y z) ≡ true
 
--- the same of every word before place i; a word without the state is left empty with its pair
-pub record Paired (old : List ℕ) (k : ℕ) (family : List ℕ) (i : ℕ) : Type 0 where
-  pub with : (j : ℕ) → j < i → has j k ≡ true → getD family j 0 ≡ bitOr (getD old j 0) (getD old (j - 2 ^ k) 0)
-  pub without : (j : ℕ) → has j k ≡ false → j + 2 ^ k < i → getD family j 0 ≡ 0
-  pub kept : (j : ℕ) → has j k ≡ false → i ≤ j + 2 ^ k → getD family j 0 ≡ getD old j 0
-  pub later : (j : ℕ) → i ≤ j → getD family j 0 ≡ getD old j 0
+-- the union of a set of word i of a family with a set of a family of n words
+abbrev pub UnionIn : ℕ → ℕ → ℕ → List ℕ → ℕ → ℕ → Type 0
+UnionIn n word i others at x =
+    (s z : ℕ) × (s < 64) × (z / 64 < n) × (has word s ≡ true) × (holds others at z ≡ true) × (x ≡ union (i * 64 + s) z)
 
--- wide enough for every state of a set
-abbrev pub WideFor : ℕ → ℕ → Type 0
-WideFor words x = (e : ℕ) → has x e ≡ true → Wide words e
+-- these unions put into the family at the front of an area
+pub record Row (n word i : ℕ) (others : List ℕ) (at : ℕ) (old out : List ℕ) : Type 0 where
+  pub from : (x : ℕ) → holds out 0 x ≡ true → (holds old 0 x ≡ true) ⊎ UnionIn n word i others at x
+  pub kept : (x : ℕ) → holds old 0 x ≡ true → holds out 0 x ≡ true
+  pub into : (x : ℕ) → UnionIn n word i others at x → holds out 0 x ≡ true
 
--- every set of a family united with set x, and no other
-pub record Lifted (old : List ℕ) (x : ℕ) (family : List ℕ) : Type 0 where
-  pub from : (y : ℕ) → inside family y ≡ true → (z : ℕ) × (inside old z ≡ true) × (y ≡ union z x)
-  pub into : (z : ℕ) → inside old z ≡ true → inside family (union z x) ≡ true
+-- the words from `at` on, n of them, aside, an area is as it was
+abbrev pub Elsewhere : ℕ → ℕ → List ℕ → List ℕ → Type 0
+Elsewhere at n old words = (place x : ℕ) → (place + x / 64 < at) ⊎ (at + n ≤ place + x / 64) → holds words place x ≡ holds old place x
 
--- a family with more sets, which are described
-pub record Grown (old : List ℕ) (more : ℕ → Type 0) (family : List ℕ) : Type 0 where
-  pub from : (y : ℕ) → inside family y ≡ true → (inside old y ≡ true) ⊎ more y
-  pub kept : (y : ℕ) → inside old y ≡ true → inside family y ≡ true
-  pub into : (y : ℕ) → more y → inside family y ≡ true
+-- set x put into the family at a place
+abbrev pub Put : List ℕ → ℕ → ℕ → List ℕ → Type 0
+Put old at x words = (place y : ℕ) → holds words place y ≡ (holds old place y || (eqb (place + y / 64) (at + x / 64) && eqb (y % 64) (x % 64)))
 
-abbrev pub InFamily : List ℕ → ℕ → Type 0
-InFamily family y = inside family y ≡ true
+-- n words from a place on emptied
+pub record Cleared (old : List ℕ) (at n : ℕ) (words : List ℕ) : Type 0 where
+  pub here : (place x : ℕ) → at ≤ place + x / 64 → place + x / 64 < at + n → holds words place x ≡ false
+  pub elsewhere : Elsewhere at n old words
 
--- the union of a set of a family with set x; with one of the sets of a word, the first of which is `from`; with one of a family
-abbrev pub UnionWith : List ℕ → ℕ → ℕ → Type 0
-UnionWith a x y = (z : ℕ) × (inside a z ≡ true) × (y ≡ union z x)
+-- a family of n words replaced by another, joined with another, and without the sets of another
+pub record Copied (old : List ℕ) (to n : ℕ) (others : List ℕ) (at : ℕ) (words : List ℕ) : Type 0 where
+  pub here : (x : ℕ) → x / 64 < n → holds words to x ≡ holds others at x
+  pub elsewhere : Elsewhere to n old words
 
-abbrev pub UnionIn : List ℕ → ℕ → ℕ → ℕ → Type 0
-UnionIn a word from y = (s : ℕ) × (s < 64) × (has word s ≡ true) × UnionWith a (from + s) y
+pub record Joined (old : List ℕ) (to n : ℕ) (others : List ℕ) (at : ℕ) (words : List ℕ) : Type 0 where
+  pub here : (x : ℕ) → x / 64 < n → holds words to x ≡ (holds old to x || holds others at x)
+  pub elsewhere : Elsewhere to n old words
 
-abbrev pub UnionOf : List ℕ → List ℕ → ℕ → Type 0
-UnionOf a b y = (x : ℕ) × (inside b x ≡ true) × UnionWith a x y
+pub record Without (old : List ℕ) (to n : ℕ) (others : List ℕ) (at : ℕ) (words : List ℕ) : Type 0 where
+  pub here : (x : ℕ) → x / 64 < n → holds words to x ≡ (holds old to x && not (holds others at x))
+  pub elsewhere : Elsewhere to n old words

@@ -1,10 +1,14 @@
 // Families of sets of states, as bits: what many unions at once are formed with.
 //
 // It leaves out where families come from and what they are for, which is the solver's.
-mod bits;
+mod area;
 mod product;
+mod words;
 
-pub use bits::add_state;
-pub use bits::has_set;
-pub use bits::put_set;
-pub use product::unite;
+pub use area::clear_at;
+pub use area::copy_at;
+pub use area::has_at;
+pub use area::join_at;
+pub use area::put_at;
+pub use area::remove_at;
+pub use product::unite_at;

@@ -1,90 +1,39 @@
-// The unions of a set of one family with a set of another.
-use crate::bits::add_state;
+// The unions of a set of one family with a set of another: word by word, since the word of a union is the union of the words.
+use crate::area::clear_at;
+use crate::words::unite_words;
 ghost use mathlib.Core.Path.{_≡_};
-ghost use mathlib.Core.Bool.{true};
-ghost use Prim.Native.Nat.{ℕ, _+_, _<_, _≤_};
+ghost use Prim.Native.Nat.{ℕ, _+_, _^_, _<_, _≤_};
 ghost use lib.ListN.{length};
-ghost use Rattle.game.specs.Sets.{has};
-ghost use Rattle.family.specs.Family.{inside, WideFor, Lifted, Grown, UnionOf, UnionWith, UnionIn, InFamily};
+ghost use Rattle.family.specs.Family.{Product, Row};
 
-// Puts into `out` every union of a set of `a` with a set of `b`. All have the same length, and what `spare` held is lost.
-pub fn unite(out: &mut [u64], a: &[u64], b: &[u64], spare: &mut [u64])
-    requires { ⌜ (length (now a) ≡ length (now spare)) × (length (now out) ≡ length (now spare)) × (length (now b) ≤ 16) ⌝ }
-    ensures { λ _. ⌜ (((x : ℕ) → inside (now (b .entry)) x ≡ true → WideFor (length (now (a .entry))) x)
-        → Grown (now (out .entry)) (UnionOf (now (a .entry)) (now (b .entry))) (now (out .exit))) ⌝ }
+// The family of unions of a set of the one at the front of `a` with a set of the one at a place of `others`, at the front of `out`.
+pub fn unite_at(out: &mut [u64], a: &[u64], others: &[u64], at: usize, n: usize)
+    requires { ⌜ (16 ≤ length (now out)) × (16 ≤ length (now a)) × (at + 16 ≤ length (now others)) × (n ≤ 16) ⌝ }
+    ensures { λ _. ⌜ ((k : ℕ) → n ≡ 2 ^ k → Product n (now (a .entry)) (now (others .entry)) at (now (out .exit))) ⌝ }
     ensures { λ _. ⌜ length (now (out .exit)) ≡ length (now (out .entry)) ⌝ }
-    ensures { λ _. ⌜ length (now (spare .exit)) ≡ length (now (spare .entry)) ⌝ }
 {
+    clear_at(out, 0, n);
     let mut i = 0;
-    while i < b.len() {
-        unite_word(out, a, b[i], i * 64, spare);
+    while i < n {
+        if a[i] != 0 {
+            unite_row(out, a[i], i, others, at, n);
+        }
         i += 1;
     }
 }
 
-// The same with the sets of one word, the first of which is `from`, the highest set first.
-fn unite_word(out: &mut [u64], a: &[u64], word: u64, from: usize, spare: &mut [u64])
-    requires { ⌜ (length (now a) ≡ length (now spare)) × (length (now out) ≡ length (now spare)) × (from + 64 ≤ 1024) ⌝ }
-    ensures { λ _. ⌜ (((s : ℕ) → s < 64 → has word s ≡ true → WideFor (length (now (a .entry))) (from + s))
-        → Grown (now (out .entry)) (UnionIn (now (a .entry)) word from) (now (out .exit))) ⌝ }
-    ensures { λ _. ⌜ length (now (out .exit)) ≡ length (now (out .entry)) ⌝ }
-    ensures { λ _. ⌜ length (now (spare .exit)) ≡ length (now (spare .entry)) ⌝ }
-{
-    let mut rest = word;
-    while rest != 0 {
-        let s = 63 - u64::leading_zeros(rest);
-        unite_set(out, a, from + (s as usize), spare);
-        rest = rest % (1u64 << s);
-    }
-}
-
-// The same with set x.
-fn unite_set(out: &mut [u64], a: &[u64], x: usize, spare: &mut [u64])
-    requires { ⌜ (length (now a) ≡ length (now spare)) × (length (now out) ≡ length (now spare)) × (x < 1024) ⌝ }
-    ensures { λ _. ⌜ (WideFor (length (now (a .entry))) x → Grown (now (out .entry)) (UnionWith (now (a .entry)) x) (now (out .exit))) ⌝ }
-    ensures { λ _. ⌜ length (now (out .exit)) ≡ length (now (out .entry)) ⌝ }
-    ensures { λ _. ⌜ length (now (spare .exit)) ≡ length (now (spare .entry)) ⌝ }
-{
-    copy(a, spare);
-    add_set(spare, x);
-    join(out, spare);
-}
-
-// Every set of the family united with set x, its states from the highest down.
-fn add_set(family: &mut [u64], x: usize)
-    requires { ⌜ x < 1024 ⌝ }
-    ensures { λ _. ⌜ (WideFor (length (now (family .entry))) x → Lifted (now (family .entry)) x (now (family .exit))) ⌝ }
-    ensures { λ _. ⌜ length (now (family .exit)) ≡ length (now (family .entry)) ⌝ }
-{
-    let mut rest = x as u64;
-    while rest != 0 {
-        let e = 63 - u64::leading_zeros(rest);
-        add_state(family, e as u8);
-        rest = rest % (1u64 << e);
-    }
-}
-
-// The words of one family written over those of another.
-fn copy(from: &[u64], to: &mut [u64])
-    requires { ⌜ length (now from) ≡ length (now to) ⌝ }
-    ensures { λ _. ⌜ now (to .exit) ≡ now (from .entry) ⌝ }
-{
-    let mut i = 0;
-    while i < to.len() {
-        to[i] = from[i];
-        i += 1;
-    }
-}
-
-// The sets of one family put into another.
-fn join(out: &mut [u64], from: &[u64])
-    requires { ⌜ length (now out) ≡ length (now from) ⌝ }
-    ensures { λ _. ⌜ Grown (now (out .entry)) (InFamily (now (from .entry))) (now (out .exit)) ⌝ }
+// The same with the sets of word i of the first family, added to what `out` has.
+fn unite_row(out: &mut [u64], word: u64, i: usize, others: &[u64], at: usize, n: usize)
+    requires { ⌜ (16 ≤ length (now out)) × (i < 16) × (at + n ≤ length (now others)) × (n ≤ 16) ⌝ }
+    ensures { λ _. ⌜ Row n word i (now (others .entry)) at (now (out .entry)) (now (out .exit)) ⌝ }
     ensures { λ _. ⌜ length (now (out .exit)) ≡ length (now (out .entry)) ⌝ }
 {
-    let mut i = 0;
-    while i < from.len() {
-        out[i] = out[i] | from[i];
-        i += 1;
+    let mut j = 0;
+    while j < n {
+        if others[at + j] != 0 {
+            let to = i | j;
+            out[to] = out[to] | unite_words(word, others[at + j]);
+        }
+        j += 1;
     }
 }

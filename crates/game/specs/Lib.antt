@@ -1,6 +1,8 @@
 pub mod Limits
 pub mod Sets
 pub mod SetLaws
+pub mod UnionLaws
+pub mod LowestLaws
 pub mod Game
 pub mod Outcome
 pub mod Stored

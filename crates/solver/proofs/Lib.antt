@@ -16,3 +16,15 @@ pub mod Skipping
 pub mod Levels
 pub mod Depth
 pub mod Walking
+pub mod Links
+pub mod HeadTurns
+pub mod FreshSets
+pub mod UnionTurns
+pub mod Gathering
+pub mod Cuts
+pub mod Emitting
+pub mod NewSets
+pub mod RuleFound
+pub mod SetWritten
+pub mod EndTurns
+pub mod NarrowTurns

@@ -24,7 +24,7 @@ use Rattle.table.specs.Table.{Entry}
 use Rattle.judge.specs.Worth.{entryOfHead}
 use Rattle.solver.specs.Rounds.{below, entryAt, headCandidates, candidates}
 use Rattle.solver.specs.RoundLaws.{AllRanged}
-use Rattle.solver.specs.UnionLaws.{none-union}
+use Rattle.game.specs.UnionLaws.{none-union}
 use Rattle.solver.specs.Enumeration.{map-flatMap}
 use Rattle.solver.specs.Growing.{Growing, growing, partly}
 use Rattle.solver.specs.Filled.{Stored, Filled}

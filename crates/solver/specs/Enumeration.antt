@@ -1,5 +1,5 @@
 -- The runs in the order in which the code finds them: the first transition outermost, what is passed united on the way.
-use Prim.Native.Nat.{ℕ, zero, suc}
+use Prim.Native.Nat.{ℕ}
 use native.Mathlib.Omega.{arith}
 use borrow.Author.Tests.{eq-eqb, ne-eqb}
 use mathlib.Core.Path.{_≡_, refl, sym, ap, ap₂, fun-ext, _∙_}
@@ -8,7 +8,7 @@ use Rattle.game.specs.Sets.{single, union}
 use Rattle.game.specs.Game.{Rule, PushdownGame, wordOf}
 use Rattle.table.specs.Table.{Entry}
 use Rattle.solver.specs.Rounds.{members, setsOf, unions, ends, ruleEnds}
-use Rattle.solver.specs.UnionLaws.{union-assoc, union-none}
+use Rattle.game.specs.UnionLaws.{union-assoc, union-none}
 
 -- one run for each rule, its end united with what was passed
 unfoldable pub restRuns : PushdownGame → List Entry → List Rule → ℕ → List ℕ

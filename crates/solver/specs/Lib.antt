@@ -3,7 +3,6 @@ pub mod Solving
 pub mod Leaving
 pub mod Given
 pub mod Demands
-pub mod UnionLaws
 pub mod Enumeration
 pub mod MemberLaws
 pub mod Samples
@@ -37,3 +36,9 @@ pub mod RoundJobLaws
 pub mod GrownRound
 pub mod Places
 pub mod Walk
+pub mod Families
+pub mod Linking
+pub mod HeadSets
+pub mod WidthLaws
+pub mod Ends
+pub mod Writing

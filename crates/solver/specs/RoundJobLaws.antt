@@ -21,7 +21,7 @@ use Rattle.game.specs.ListLaws.{_∈_, test, below-suc}
 use Rattle.game.specs.Win.{isAbelard}
 use Rattle.table.specs.Table.{Entry}
 use Rattle.solver.specs.Rounds.{below, unions, ruleEnds, entryAt, eloiseCandidates, abelardCandidates, headCandidates}
-use Rattle.solver.specs.UnionLaws.{none-union}
+use Rattle.game.specs.UnionLaws.{none-union}
 use Rattle.solver.specs.Enumeration.{restRuns, flatMap-append, flatMap-same, rest-is}
 use Rattle.solver.specs.InsertLaws.{noEntry}
 use Rattle.solver.specs.Jobs.{rulesBetween, endOf, fieldOf, subRuns, beginRuns, NextRule}

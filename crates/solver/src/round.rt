@@ -1,6 +1,8 @@
 // A round: what the runs of the old round give, head by head, rule by rule and run by run.
 use crate::memo::LINE;
 use crate::memo::LINES;
+use crate::narrow::is_narrow;
+use crate::narrow::take_narrow;
 use crate::places::PLACES;
 use crate::places::end_at;
 use crate::places::set_places;
@@ -32,8 +34,44 @@ ghost use Rattle.solver.specs.Places.{Placing};
 ghost use Rattle.solver.specs.RoundJobs.{jobOf, runsOf, runRuns, Blank, RunsStart, RunsEnd};
 
 // The next round, added to a table that holds the old one as `work` does: the number of entries afterwards, or one more than
-// the table can hold. The memo is the round's own.
+// the table can hold. What the last four areas held is lost.
 pub fn take_round(
+    sizes: Sizes,
+    rules: &[u8],
+    work: &[u32],
+    table: &mut [u32],
+    old: usize,
+    birthdate: u32,
+    all: &mut [u64],
+    ends: &mut [u64],
+    keys: &mut [usize],
+    lines: &mut [u64],
+) -> usize
+    requires { ⌜ Safe sizes (now rules) × (0 < sizes .letters) × (old * 3 ≤ length (now work)) × (birthdate < 65536) ⌝ }
+    ensures { λ r. ⌜ ((g : PushdownGame) (es : List Entry) (n : ℕ) → Held g sizes (now (rules .entry)) → Good g → AllRanged g es
+        → Stored n (now (work .entry)) old es → Stored n (now (table .entry)) old es
+        → Filled n (now (table .exit)) r (growing n (candidates g es birthdate) (partly es))) ⌝ }
+    ensures { λ _. ⌜ length (now (table .exit)) ≡ length (now (table .entry)) ⌝ }
+{
+    if is_narrow(sizes, all.len(), ends.len(), keys.len(), lines.len()) {
+        return take_narrow(
+            sizes,
+            rules,
+            work,
+            table,
+            old,
+            birthdate,
+            all,
+            ends,
+            keys,
+            lines,
+        );
+    }
+    take_wide(sizes, rules, work, table, old, birthdate)
+}
+
+// The same by runs that are walked one by one. The memo is the round's own.
+fn take_wide(
     sizes: Sizes,
     rules: &[u8],
     work: &[u32],

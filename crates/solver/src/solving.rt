@@ -2,6 +2,10 @@
 use crate::adding::insert;
 use crate::area::clear;
 use crate::area::copy;
+use crate::narrow::ENDS;
+use crate::narrow::HEADS;
+use crate::narrow::KEYS;
+use crate::narrow::LINES;
 use crate::round::take_round;
 use game::Answer;
 use game::Game;
@@ -88,7 +92,10 @@ fn all_rounds(
     if table.len() / EntryWords::STRIDE < first {
         return give_up(table, work, 11, 0);
     }
-    rounds_from(sizes, rules, table, work, first)
+    if sizes.states <= 10 {
+        return narrow_rounds(sizes, rules, table, work, first);
+    }
+    wide_rounds(sizes, rules, table, work, first)
 }
 
 // Round 0: the target's transitions, birthdate 0.
@@ -114,8 +121,8 @@ fn round_zero(sizes: Sizes, rules: &[u8], targets: &[u32], table: &mut [u32]) ->
     count
 }
 
-// The rounds after round 0, taken in order until settled. The work area holds the old round.
-fn rounds_from(
+// The rounds after round 0 of a game of at most ten states, with areas for families.
+fn narrow_rounds(
     sizes: Sizes,
     rules: &[u8],
     table: &mut [u32],
@@ -126,11 +133,84 @@ fn rounds_from(
     ensures { λ r. ⌜ ((g : PushdownGame) (n : ℕ) → Held g sizes (now (rules .entry)) → Good g → Stored n (now (table .entry)) first (roundZero g)
         → called r (now (table .exit)) (now (work .exit)) ≡ leaving (solvingRounds g n) (length (now (table .entry))) (length (now (work .entry)))) ⌝ }
 {
+    let mut all = [0u64; HEADS];
+    let mut ends = [0u64; ENDS];
+    let mut keys = [0usize; KEYS];
+    let mut lines = [0u64; LINES];
+    rounds_from(
+        sizes,
+        rules,
+        table,
+        work,
+        first,
+        &mut all,
+        &mut ends,
+        &mut keys,
+        &mut lines,
+    )
+}
+
+// Those of another game, with none.
+fn wide_rounds(
+    sizes: Sizes,
+    rules: &[u8],
+    table: &mut [u32],
+    work: &mut [u32],
+    first: usize,
+) -> Solution
+    requires { ⌜ Safe sizes (now rules) × (0 < sizes .letters) × (length (now table) ≡ length (now work)) × (first * 3 ≤ length (now table)) ⌝ }
+    ensures { λ r. ⌜ ((g : PushdownGame) (n : ℕ) → Held g sizes (now (rules .entry)) → Good g → Stored n (now (table .entry)) first (roundZero g)
+        → called r (now (table .exit)) (now (work .exit)) ≡ leaving (solvingRounds g n) (length (now (table .entry))) (length (now (work .entry)))) ⌝ }
+{
+    let mut none = [0u64; 1];
+    let mut ends = [0u64; 1];
+    let mut keys = [0usize; 1];
+    let mut lines = [0u64; 1];
+    rounds_from(
+        sizes,
+        rules,
+        table,
+        work,
+        first,
+        &mut none,
+        &mut ends,
+        &mut keys,
+        &mut lines,
+    )
+}
+
+// The rounds after round 0, taken in order until settled. The work area holds the old round.
+fn rounds_from(
+    sizes: Sizes,
+    rules: &[u8],
+    table: &mut [u32],
+    work: &mut [u32],
+    first: usize,
+    all: &mut [u64],
+    ends: &mut [u64],
+    keys: &mut [usize],
+    lines: &mut [u64],
+) -> Solution
+    requires { ⌜ Safe sizes (now rules) × (0 < sizes .letters) × (length (now table) ≡ length (now work)) × (first * 3 ≤ length (now table)) ⌝ }
+    ensures { λ r. ⌜ ((g : PushdownGame) (n : ℕ) → Held g sizes (now (rules .entry)) → Good g → Stored n (now (table .entry)) first (roundZero g)
+        → called r (now (table .exit)) (now (work .exit)) ≡ leaving (solvingRounds g n) (length (now (table .entry))) (length (now (work .entry)))) ⌝ }
+{
     let mut count = first;
     let mut i = 0u32;
     loop {
         copy(table, work);
-        let next = take_round(sizes, rules, work, table, count, i + 1);
+        let next = take_round(
+            sizes,
+            rules,
+            work,
+            table,
+            count,
+            i + 1,
+            all,
+            ends,
+            keys,
+            lines,
+        );
         if next == count {
             clear(work);
             return Solution::Solved {

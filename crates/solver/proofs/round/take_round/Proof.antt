@@ -1,40 +1,52 @@
--- The places are those of every head, and the memo is 16,384 lines of three zero words, which name nothing. Assumes what the
--- contract requires.
-use mathlib.Core.Path.{refl}
-use Rattle.solver.proofs.RoundTurns.{zeros-blank, letters-few, heads-placed}
 use borrow.Author.Needs.{needs}
 use Rattle.solver.proofs.round.take_round.Statement.{statement}
 use Rattle.solver.proofs.round.take_round.Tie as tie
 
-slice-aggregate-set-places : tie.Need-slice-aggregate-set-places
-slice-aggregate-set-places c = search needs
+is-narrow-requires : tie.Need-is-narrow-requires
+is-narrow-requires c κs = search needs
 
-set-places-requires : tie.Need-set-places-requires
-set-places-requires c κs = search needs
-
-slice-aggregate-add-runs : tie.Need-slice-aggregate-add-runs
-slice-aggregate-add-runs c = search needs
-
-slice-aggregate-add-runs-2 : tie.Need-slice-aggregate-add-runs-2
-slice-aggregate-add-runs-2 c = search needs
-
-add-runs-requires : tie.Need-add-runs-requires
-add-runs-requires c κs = search needs
+take-narrow-requires : tie.Need-take-narrow-requires
+take-narrow-requires c κs = (c .before .before .before .before .before .before .before .before .before .before .before .before .before .before .pre .0, c .before .before .before .before .before .before .before .before .before .before .before .before .before .before .pre .1, c .before .before .before .before .before .before .before .before .before .before .before .before .before .before .pre .2, c .before .before .before .before .before .before .before .before .before .before .before .before .before .before .pre .3, (c .before .before .before .before .before .before .is-narrow .ensures) (c .before .before .before .before .before .if1 .taken))
 
 same-length : tie.Need-same-length
 same-length c = search needs
 
+same-length-2 : tie.Need-same-length-2
+same-length-2 c = search needs
+
+same-length-3 : tie.Need-same-length-3
+same-length-3 c = search needs
+
+same-length-4 : tie.Need-same-length-4
+same-length-4 c = search needs
+
+same-length-5 : tie.Need-same-length-5
+same-length-5 c = search needs
+
 returns : tie.Need-returns
-returns c = (λ g es n held good ranged work table. c .before .before .before .add-runs .ensures .0 g es n held good ranged work table (heads-placed g _ _ held good _ _ _ (c .before .before .before .before .before .before .before .before .set-places .ensures .0 refl (c .before .before .before .before .before .before .before .before .before .before .before .before .before .pre .0 .states) (letters-few g _ _ held good))) (zeros-blank 49152), c .before .before .before .add-runs .ensures .1)
+returns c = search needs
+
+take-wide-requires : tie.Need-take-wide-requires
+take-wide-requires c κs = search needs
+
+same-length-6 : tie.Need-same-length-6
+same-length-6 c = search needs
+
+returns-2 : tie.Need-returns-2
+returns-2 c = search needs
 
 pub take-round-spec : {M : Type 1} → statement M
 take-round-spec =
     tie.close
     (tie.spec
-    slice-aggregate-set-places
-    set-places-requires
-    slice-aggregate-add-runs
-    slice-aggregate-add-runs-2
-    add-runs-requires
+    is-narrow-requires
+    take-narrow-requires
     same-length
-    returns)
+    same-length-2
+    same-length-3
+    same-length-4
+    same-length-5
+    returns
+    take-wide-requires
+    same-length-6
+    returns-2)

@@ -5,7 +5,6 @@ use Rattle.game.specs.Held.{safe}
 use Rattle.game.specs.declared.game.Sizes.{Sizes}
 use Rattle.solver.proofs.Turns.{long-of}
 use Rattle.solver.proofs.RoundsTaken.{leaving-at, zero-full, zero-stored, zero-fits}
-use borrow.Author.Needs.{needs}
 use Rattle.solver.proofs.solving.all_rounds.Statement.{statement}
 use Rattle.solver.proofs.solving.all_rounds.Tie as tie
 
@@ -22,10 +21,10 @@ same-length-2 : tie.Need-same-length-2
 same-length-2 c = search needs
 
 returns : tie.Need-returns
-returns c = λ g n h e. let f = c .before .before .before .before .before .before .before .before .before .before .round-zero .ensures .0 g n h e in c .before .before .before .before .give-up .ensures .0 ∙ leaving-at _ (c .before .before .before .before .before .before .before .before .before .before .round-zero .ensures .1) refl ∙ sym (zero-full g n _ _ f (omega (arith, c .before .before .before .before .before .before .before .if1 .taken, long-of n _ _ _ f)) _ _)
+returns c = λ g n h e. let f = (c .before .before .before .before .before .before .before .before .before .before .round-zero .ensures) .0 g n h e in (c .before .before .before .before .give-up .ensures) .0 ∙ leaving-at _ ((c .before .before .before .before .before .before .before .before .before .before .round-zero .ensures) .1) refl ∙ sym (zero-full g n _ _ f (omega (arith, c .before .before .before .before .before .before .before .if1 .taken, long-of n _ _ _ f)) _ _)
 
-rounds-from-requires : tie.Need-rounds-from-requires
-rounds-from-requires c κs = (safe (c .before .before .before .before .before .before .before .before .before .before .before .pre .0 .0) _ _ (c .before .before .before .before .before .before .before .before .before .before .before .pre .0 .1 .held), omega (arith, ap (λ (s : Sizes). s .letters) (c .before .before .before .before .before .before .before .before .before .before .before .pre .0 .1 .held .sized), c .before .before .before .before .before .before .before .before .before .before .before .pre .0 .1 .good .ranged .bottom), c .before .before .before .before .before .round-zero .ensures .1 ∙ c .before .before .before .before .before .before .before .before .before .before .before .pre .1, omega (arith, c .before .before .if1 .left))
+narrow-rounds-requires : tie.Need-narrow-rounds-requires
+narrow-rounds-requires c κs = (safe (c .before .before .before .before .before .before .before .before .before .before .before .before .before .pre .0 .0) _ _ (c .before .before .before .before .before .before .before .before .before .before .before .before .before .pre .0 .1 .held), omega (arith, ap (λ (s : Sizes). s .letters) (c .before .before .before .before .before .before .before .before .before .before .before .before .before .pre .0 .1 .held .sized), c .before .before .before .before .before .before .before .before .before .before .before .before .before .pre .0 .1 .good .ranged .bottom), (c .before .before .before .before .before .before .before .round-zero .ensures) .1 ∙ c .before .before .before .before .before .before .before .before .before .before .before .before .before .pre .1, omega (arith, c .before .before .before .before .if1 .left))
 
 same-length-3 : tie.Need-same-length-3
 same-length-3 c = search needs
@@ -34,7 +33,19 @@ same-length-4 : tie.Need-same-length-4
 same-length-4 c = search needs
 
 returns-2 : tie.Need-returns-2
-returns-2 c = λ g n h e. let f = c .before .before .before .before .before .before .before .before .before .before .round-zero .ensures .0 g n h e in c .before .before .before .before .rounds-from .ensures g n (h .held) (h .good) (zero-stored g n _ _ f (omega (arith, c .before .before .before .before .before .before .before .if1 .left, long-of n _ _ _ f))) ∙ leaving-at _ (c .before .before .before .before .before .before .before .before .before .before .round-zero .ensures .1) refl ∙ sym (zero-fits g n _ _ f (omega (arith, c .before .before .before .before .before .before .before .if1 .left, long-of n _ _ _ f)) _ _)
+returns-2 c = λ g n h e. let f = (c .before .before .before .before .before .before .before .before .before .before .before .before .round-zero .ensures) .0 g n h e in (c .before .before .before .before .narrow-rounds .ensures) g n (h .held) (h .good) (zero-stored g n _ _ f (omega (arith, c .before .before .before .before .before .before .before .before .before .if1 .left, long-of n _ _ _ f))) ∙ leaving-at _ ((c .before .before .before .before .before .before .before .before .before .before .before .before .round-zero .ensures) .1) refl ∙ sym (zero-fits g n _ _ f (omega (arith, c .before .before .before .before .before .before .before .before .before .if1 .left, long-of n _ _ _ f)) _ _)
+
+wide-rounds-requires : tie.Need-wide-rounds-requires
+wide-rounds-requires c κs = (safe (c .before .before .before .before .before .before .before .before .before .before .before .before .before .pre .0 .0) _ _ (c .before .before .before .before .before .before .before .before .before .before .before .before .before .pre .0 .1 .held), omega (arith, ap (λ (s : Sizes). s .letters) (c .before .before .before .before .before .before .before .before .before .before .before .before .before .pre .0 .1 .held .sized), c .before .before .before .before .before .before .before .before .before .before .before .before .before .pre .0 .1 .good .ranged .bottom), (c .before .before .before .before .before .before .before .round-zero .ensures) .1 ∙ c .before .before .before .before .before .before .before .before .before .before .before .before .before .pre .1, omega (arith, c .before .before .before .before .if1 .left))
+
+same-length-5 : tie.Need-same-length-5
+same-length-5 c = search needs
+
+same-length-6 : tie.Need-same-length-6
+same-length-6 c = search needs
+
+returns-3 : tie.Need-returns-3
+returns-3 c = λ g n h e. let f = (c .before .before .before .before .before .before .before .before .before .before .before .before .round-zero .ensures) .0 g n h e in (c .before .before .before .before .wide-rounds .ensures) g n (h .held) (h .good) (zero-stored g n _ _ f (omega (arith, c .before .before .before .before .before .before .before .before .before .if1 .left, long-of n _ _ _ f))) ∙ leaving-at _ ((c .before .before .before .before .before .before .before .before .before .before .before .before .round-zero .ensures) .1) refl ∙ sym (zero-fits g n _ _ f (omega (arith, c .before .before .before .before .before .before .before .before .before .if1 .left, long-of n _ _ _ f)) _ _)
 
 pub all-rounds-spec : {M : Type 1} → statement M
 all-rounds-spec =
@@ -45,7 +56,11 @@ all-rounds-spec =
     same-length
     same-length-2
     returns
-    rounds-from-requires
+    narrow-rounds-requires
     same-length-3
     same-length-4
-    returns-2)
+    returns-2
+    wide-rounds-requires
+    same-length-5
+    same-length-6
+    returns-3)

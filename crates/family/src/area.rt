@@ -1,0 +1,75 @@
+// Families at places of an area.
+ghost use mathlib.Core.Path.{_≡_};
+ghost use Prim.Native.Nat.{_+_, _/_, _<_, _≤_};
+ghost use lib.ListN.{length};
+ghost use Rattle.family.specs.Family.{holds, Put, Cleared, Copied, Joined, Without};
+
+// Set x is in the family at a place.
+pub fn has_at(words: &[u64], at: usize, x: usize) -> bool
+    requires { ⌜ at + x / 64 < length (now words) ⌝ }
+    ensures { λ r. ⌜ r ≡ holds (now (words .entry)) at x ⌝ }
+{
+    (words[at + x / 64] >> (x % 64)) % 2 == 1
+}
+
+// Set x put into the family at a place.
+pub fn put_at(words: &mut [u64], at: usize, x: usize)
+    requires { ⌜ at + x / 64 < length (now words) ⌝ }
+    ensures { λ _. ⌜ Put (now (words .entry)) at x (now (words .exit)) ⌝ }
+    ensures { λ _. ⌜ length (now (words .exit)) ≡ length (now (words .entry)) ⌝ }
+{
+    let i = at + x / 64;
+    words[i] = words[i] | (1u64 << (x % 64));
+}
+
+// Empties n words from a place on.
+pub fn clear_at(words: &mut [u64], at: usize, n: usize)
+    requires { ⌜ at + n ≤ length (now words) ⌝ }
+    ensures { λ _. ⌜ Cleared (now (words .entry)) at n (now (words .exit)) ⌝ }
+    ensures { λ _. ⌜ length (now (words .exit)) ≡ length (now (words .entry)) ⌝ }
+{
+    let mut i = 0;
+    while i < n {
+        words[at + i] = 0;
+        i += 1;
+    }
+}
+
+// The family at a place of `others` written over that at a place of `words`.
+pub fn copy_at(words: &mut [u64], to: usize, others: &[u64], at: usize, n: usize)
+    requires { ⌜ (to + n ≤ length (now words)) × (at + n ≤ length (now others)) ⌝ }
+    ensures { λ _. ⌜ Copied (now (words .entry)) to n (now (others .entry)) at (now (words .exit)) ⌝ }
+    ensures { λ _. ⌜ length (now (words .exit)) ≡ length (now (words .entry)) ⌝ }
+{
+    let mut i = 0;
+    while i < n {
+        words[to + i] = others[at + i];
+        i += 1;
+    }
+}
+
+// Its sets put into the family at a place of `words`.
+pub fn join_at(words: &mut [u64], to: usize, others: &[u64], at: usize, n: usize)
+    requires { ⌜ (to + n ≤ length (now words)) × (at + n ≤ length (now others)) ⌝ }
+    ensures { λ _. ⌜ Joined (now (words .entry)) to n (now (others .entry)) at (now (words .exit)) ⌝ }
+    ensures { λ _. ⌜ length (now (words .exit)) ≡ length (now (words .entry)) ⌝ }
+{
+    let mut i = 0;
+    while i < n {
+        words[to + i] = words[to + i] | others[at + i];
+        i += 1;
+    }
+}
+
+// Its sets taken out of the family at a place of `words`.
+pub fn remove_at(words: &mut [u64], to: usize, others: &[u64], at: usize, n: usize)
+    requires { ⌜ (to + n ≤ length (now words)) × (at + n ≤ length (now others)) ⌝ }
+    ensures { λ _. ⌜ Without (now (words .entry)) to n (now (others .entry)) at (now (words .exit)) ⌝ }
+    ensures { λ _. ⌜ length (now (words .exit)) ≡ length (now (words .entry)) ⌝ }
+{
+    let mut i = 0;
+    while i < n {
+        words[to + i] = words[to + i] ^ (words[to + i] & others[at + i]);
+        i += 1;
+    }
+}
