@@ -13,7 +13,6 @@ ghost use lib.ListN.{length};
 ghost use Rattle.game.specs.Game.{PushdownGame};
 ghost use Rattle.game.specs.GoodGame.{Good};
 ghost use Rattle.game.specs.Held.{Held};
-ghost use Rattle.game.specs.LowestLaws.{LowestOf};
 ghost use Rattle.table.specs.Table.{Entry, key, firstWord};
 ghost use Rattle.solver.specs.Rounds.{candidates};
 ghost use Rattle.solver.specs.RoundLaws.{AllRanged};

@@ -2,7 +2,6 @@
 use crate::runs::next_rule;
 use game::Game;
 ghost use mathlib.Core.Path.{_≡_};
-ghost use mathlib.Core.List.{List};
 ghost use Prim.Native.Nat.{ℕ, _+_, _*_, _<_, _≤_};
 ghost use lib.ListN.{length, getD};
 ghost use Rattle.solver.specs.Families.{Linked};

@@ -4,7 +4,7 @@ ghost use mathlib.Core.Path.{_≡_};
 ghost use mathlib.Core.Logic.{_⊎_};
 ghost use mathlib.Core.Bool.{true};
 ghost use Prim.Native.Nat.{ℕ};
-ghost use Rattle.solver.specs.Memo.{Line, lineAt};
+ghost use Rattle.solver.specs.Memo.{lineAt};
 
 // How many lines it has, and how many words a line has.
 pub const LINES: usize = 16384;

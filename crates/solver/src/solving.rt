@@ -19,7 +19,7 @@ ghost use lib.ListN.{length, replicate};
 ghost use Rattle.game.specs.Game.{PushdownGame};
 ghost use Rattle.game.specs.GoodGame.{Good};
 ghost use Rattle.game.specs.Held.{Held, Safe};
-ghost use Rattle.game.specs.Outcome.{Outcome, refused};
+ghost use Rattle.game.specs.Outcome.{refused};
 ghost use Rattle.game.specs.Stored.{stored};
 ghost use Rattle.solver.specs.Rounds.{roundZero, targetEntry};
 ghost use Rattle.solver.specs.Solving.{solvingGame};
