@@ -23,8 +23,8 @@ use Rattle.game.specs.declared.game.Answer.{Answer}
 use Rattle.game.specs.declared.game.Answer.the-variants.{Done as AnswerDone, Refused as AnswerRefused}
 use Rattle.table.specs.Table.{lengthInForm, entryStride}
 use Rattle.judge.specs.Verdict.{after}
-use Rattle.solver.specs.Solving.{Solved, solvingGame, solvingWords}
-use Rattle.solver.specs.Solution.{in-entries}
+use Rattle.rounds.specs.Solving.{Solved, solvingGame, solvingWords}
+use Rattle.rounds.specs.Solution.{in-entries}
 use Rattle.solver.specs.Leaving.{leaving, called, solveCall}
 use Rattle.solver.specs.Given.{Given, refusedAs}
 use Rattle.solver.specs.declared.solving.Solution.{Solution}

@@ -16,14 +16,14 @@ use Rattle.game.specs.Outcome.{Outcome, done, refused}
 use Rattle.table.specs.Table.{Entry}
 use Rattle.table.specs.Pairwise.{Ascending, Pairwise}
 use Rattle.judge.specs.Verdict.{after}
-use Rattle.solver.specs.Rounds.{roundZero, targetEntry, nextRound, candidates, settled}
-use Rattle.solver.specs.Solving.{Solved, fitting, roundsFrom, solvedTable, solvingGame}
-use Rattle.solver.specs.RoundLaws.{roundTable, round-ranged}
-use Rattle.solver.specs.SolvingLaws.{Unsettled}
-use Rattle.solver.specs.Reported.{latest-is}
-use Rattle.solver.specs.Growing.{growing, partly}
-use Rattle.solver.specs.GrownRound.{ended, same-settled, other-unsettled, over, within}
-use Rattle.solver.specs.Filled.{Stored, Filled}
+use Rattle.rounds.specs.Rounds.{roundZero, targetEntry, nextRound, candidates, settled}
+use Rattle.rounds.specs.Solving.{Solved, fitting, roundsFrom, solvedTable, solvingGame}
+use Rattle.rounds.specs.RoundLaws.{roundTable, round-ranged}
+use Rattle.rounds.specs.SolvingLaws.{Unsettled}
+use Rattle.rounds.specs.Reported.{latest-is}
+use Rattle.rounds.specs.Growing.{growing, partly}
+use Rattle.rounds.specs.GrownRound.{ended, same-settled, other-unsettled, over, within}
+use Rattle.rounds.specs.Filled.{Stored, Filled}
 use Rattle.solver.specs.Leaving.{leaving, called}
 use Rattle.solver.specs.Given.{solvingRounds}
 use Rattle.solver.specs.declared.solving.Solution.{Solution}

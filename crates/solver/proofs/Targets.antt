@@ -16,10 +16,10 @@ use Rattle.game.specs.declared.game.Sizes.{Sizes}
 use Rattle.table.specs.Table.{entryOf, firstWord, entryWords, tableWords, entryStride}
 use Rattle.table.specs.WordLaws.{word-entry}
 use Rattle.table.specs.Pairwise.{Pairwise}
-use Rattle.solver.specs.Rounds.{targetEntry}
-use Rattle.solver.specs.Growing.{Growing, grow, growing, partly}
-use Rattle.solver.specs.Filled.{Small, Stored, Filled}
-use Rattle.solver.specs.InsertLaws.{getD-in}
+use Rattle.rounds.specs.Rounds.{targetEntry}
+use Rattle.rounds.specs.Growing.{Growing, grow, growing, partly}
+use Rattle.rounds.specs.Filled.{Small, Stored, Filled}
+use Rattle.rounds.specs.InsertLaws.{getD-in}
 use Rattle.solver.specs.Given.{Given}
 
 -- the transitions before place t are added

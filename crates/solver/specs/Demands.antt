@@ -25,11 +25,11 @@ use Rattle.judge.specs.declared.verdict.Verdict.the-variants.{
   Abelard,
   Refused as JudgeRefused,
 }
-use Rattle.solver.specs.Solving.{Solved, solvingWords}
+use Rattle.rounds.specs.Solving.{Solved, solvingWords}
 use Rattle.solver.specs.Leaving.{Call, Report, leaving, solveCall, called}
-use Rattle.solver.specs.Solution.{done-same}
-use Rattle.solver.specs.Demand2.{isLost, Judges, demand-two}
-use Rattle.solver.specs.Demand3.{Plays, Reports, demand-three}
+use Rattle.rounds.specs.Solution.{done-same}
+use Rattle.rounds.specs.Demand2.{isLost, Judges, demand-two}
+use Rattle.rounds.specs.Demand3.{Plays, Reports, demand-three}
 use Rattle.solver.specs.declared.solving.Solution.{Solution}
 use Rattle.solver.specs.declared.solving.Solution.the-variants.{Solved as SolvedWith}
 

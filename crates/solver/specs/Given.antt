@@ -12,8 +12,8 @@ use Rattle.game.specs.declared.game.Answer.{Answer}
 use Rattle.game.specs.declared.game.Answer.the-variants.{Done as AnswerDone, Refused as AnswerRefused}
 use Rattle.table.specs.Table.{Entry}
 use Rattle.judge.specs.Verdict.{after}
-use Rattle.solver.specs.Rounds.{roundZero}
-use Rattle.solver.specs.Solving.{Solved, roundsFrom, solvedOf}
+use Rattle.rounds.specs.Rounds.{roundZero}
+use Rattle.rounds.specs.Solving.{Solved, roundsFrom, solvedOf}
 use Rattle.game.specs.Limits.{maxRounds}
 use Rattle.solver.specs.declared.solving.Solution.{Solution}
 use Rattle.solver.specs.declared.solving.Solution.the-variants.{Solved as SolvedWith, Refused}

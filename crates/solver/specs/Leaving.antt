@@ -3,7 +3,7 @@ use Prim.Native.Nat.{ℕ}
 use mathlib.Core.List.{List}
 use lib.ListN.{replicate}
 use Rattle.game.specs.Outcome.{Outcome, done, refused}
-use Rattle.solver.specs.Solving.{Solved, solvingWords}
+use Rattle.rounds.specs.Solving.{Solved, solvingWords}
 use Rattle.solver.specs.declared.solving.Solution.{Solution}
 use Rattle.solver.specs.declared.solving.Solution.the-variants.{Solved as SolvedWith, Refused}
 

@@ -1,15 +1,15 @@
 // Solving: from a game file to the table of the rounds, in two lent areas.
-use crate::adding::insert;
-use crate::area::clear;
-use crate::area::copy;
-use crate::narrow::ENDS;
-use crate::narrow::HEADS;
-use crate::narrow::KEYS;
-use crate::narrow::LINES;
 use crate::round::take_round;
 use game::Answer;
 use game::Game;
 use game::Sizes;
+use narrow::ENDS;
+use narrow::HEADS;
+use narrow::KEYS;
+use narrow::LINES;
+use rounds::clear;
+use rounds::copy;
+use rounds::insert;
 use table::EntryWords;
 use table::is_length;
 ghost use mathlib.Core.Path.{_≡_};
@@ -21,10 +21,10 @@ ghost use Rattle.game.specs.GoodGame.{Good};
 ghost use Rattle.game.specs.Held.{Held, Safe};
 ghost use Rattle.game.specs.Outcome.{refused};
 ghost use Rattle.game.specs.Stored.{stored};
-ghost use Rattle.solver.specs.Rounds.{roundZero, targetEntry};
-ghost use Rattle.solver.specs.Solving.{solvingGame};
-ghost use Rattle.solver.specs.Growing.{growing, partly};
-ghost use Rattle.solver.specs.Filled.{Stored, Filled};
+ghost use Rattle.rounds.specs.Rounds.{roundZero, targetEntry};
+ghost use Rattle.rounds.specs.Solving.{solvingGame};
+ghost use Rattle.rounds.specs.Growing.{growing, partly};
+ghost use Rattle.rounds.specs.Filled.{Stored, Filled};
 ghost use Rattle.solver.specs.Leaving.{leaving, called, solveCall};
 ghost use Rattle.solver.specs.Given.{Given, solvingRounds, refusedAs};
 

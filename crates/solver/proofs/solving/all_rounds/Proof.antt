@@ -3,7 +3,7 @@ use borrow.Author.Needs.{needs}
 use mathlib.Core.Path.{refl, sym, ap, _∙_}
 use Rattle.game.specs.Held.{safe}
 use Rattle.game.specs.declared.game.Sizes.{Sizes}
-use Rattle.solver.proofs.Turns.{long-of}
+use Rattle.rounds.specs.StoredRows.{long-of}
 use Rattle.solver.proofs.RoundsTaken.{leaving-at, zero-full, zero-stored, zero-fits}
 use Rattle.solver.proofs.solving.all_rounds.Statement.{statement}
 use Rattle.solver.proofs.solving.all_rounds.Tie as tie

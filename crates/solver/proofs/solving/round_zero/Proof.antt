@@ -7,7 +7,7 @@ use mathlib.Core.Path.{_≡_, refl, _∙_}
 use lib.ListN.{length, replicate}
 use Rattle.game.specs.Game.{PushdownGame}
 use Rattle.solver.specs.Given.{Given}
-use Rattle.solver.proofs.Turns.{long-of}
+use Rattle.rounds.specs.StoredRows.{long-of}
 use Rattle.solver.proofs.Targets.{Adding, adding-starts, adding-next, adding-ends, counted, many, state-small, letter-small, entry-small}
 use Rattle.solver.proofs.solving.round_zero.Statement.{statement}
 use Rattle.solver.proofs.solving.round_zero.Tie as tie

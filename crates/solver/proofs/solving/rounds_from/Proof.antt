@@ -12,11 +12,11 @@ use Rattle.game.specs.Limits.{maxRounds}
 use Rattle.game.specs.Game.{PushdownGame}
 use Rattle.game.specs.GoodGame.{Good}
 use Rattle.game.specs.Held.{Held}
-use Rattle.solver.specs.Rounds.{roundZero}
-use Rattle.solver.specs.RoundLaws.{roundTable, round-ranged}
-use Rattle.solver.specs.Filled.{Stored}
+use Rattle.rounds.specs.Rounds.{roundZero}
+use Rattle.rounds.specs.RoundLaws.{roundTable, round-ranged}
+use Rattle.rounds.specs.Filled.{Stored}
 use Rattle.solver.specs.declared.solving.Solution.the-variants.{Solved as SolvedWith}
-use Rattle.solver.proofs.Inserting.{long}
+use Rattle.rounds.specs.StoredRows.{long}
 use Rattle.solver.proofs.RoundsTaken.{Taken, taken-zero, leaving-at, cleared-at, turn-settled, turn-last, turn-full, turn-next}
 use Rattle.solver.proofs.solving.rounds_from.Statement.{statement}
 use Rattle.solver.proofs.solving.rounds_from.Tie as tie

@@ -1,0 +1,12 @@
+pub mod Cuts
+pub mod Emitting
+pub mod EndTurns
+pub mod FreshSets
+pub mod Gathering
+pub mod HeadTurns
+pub mod Links
+pub mod NarrowTurns
+pub mod NewSets
+pub mod RuleFound
+pub mod SetWritten
+pub mod UnionTurns

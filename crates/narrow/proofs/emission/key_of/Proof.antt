@@ -1,0 +1,24 @@
+use native.Mathlib.Omega.{arith}
+use Rattle.table.specs.Table.{key}
+use borrow.Author.Needs.{needs}
+use Rattle.narrow.proofs.emission.key_of.Statement.{statement}
+use Rattle.narrow.proofs.emission.key_of.Tie as tie
+
+mul-result : tie.Need-mul-result
+mul-result c = search needs
+
+add-result : tie.Need-add-result
+add-result c = search needs
+
+mul-result-2 : tie.Need-mul-result-2
+mul-result-2 c = search needs
+
+add-result-2 : tie.Need-add-result-2
+add-result-2 c = search needs
+
+returns : tie.Need-returns
+unfolding key
+returns c = omega arith
+
+pub key-of-spec : {M : Type 1} → statement M
+key-of-spec = tie.close (tie.spec mul-result add-result mul-result-2 add-result-2 returns)

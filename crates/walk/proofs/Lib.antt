@@ -1,0 +1,12 @@
+pub mod Lines
+pub mod PlacesKept
+pub mod Enumerating
+pub mod HeadPlaces
+pub mod Parts
+pub mod Turns
+pub mod Depth
+pub mod Levels
+pub mod Walking
+pub mod Skipping
+pub mod Rounding
+pub mod RoundTurns

@@ -1,0 +1,343 @@
+-- What each function of the enumeration leaves, from what the functions that it calls leave.
+use Prim.Native.Nat.{ℕ, suc, _+_, _*_, _%_, _^_, _<_, _≤_}
+use native.Mathlib.Omega.{arith}
+use mathlib.Core.Path.{_≡_, refl, sym, ap, subst, _∙_}
+use mathlib.Core.Logic.{_⊎_, ⊎-elim}
+use mathlib.Core.Bool.{Bool, true, false, cond, _&&_}
+use mathlib.Core.List.{List, [], _∷_, map, flatMap}
+use lib.ListN.{length, getD}
+use lib.Dec.{eqb, ltb}
+use lib.Pow.{pow-lt, pow-pos}
+use borrow.Author.Tests.{eq-eqb, ltb-false, ltb-true, ne-eqb}
+use Rattle.game.specs.Sets.{has, single, union}
+use Rattle.game.specs.SetLaws.{has-above}
+use Rattle.game.specs.ListLaws.{_∈_, test, clash}
+use Rattle.game.specs.Game.{Rule, PushdownGame, ofHead}
+use Rattle.game.specs.Stored.{ruleAt}
+use Rattle.game.specs.StoredLaws.{noRule}
+use Rattle.game.specs.GoodGame.{GoodRule}
+use Rattle.table.specs.Table.{Entry, entryOf, key}
+use Rattle.table.specs.Rows.{Placed, wordsAt}
+use Rattle.table.specs.declared.entry.EntryWords.{EntryWords}
+use Rattle.judge.specs.Worth.{entryOfHead}
+use Rattle.rounds.specs.Rounds.{entryAt}
+use Rattle.rounds.specs.Enumeration.{restRuns}
+use Rattle.rounds.specs.Growing.{Growing, grow, growing}
+use Rattle.rounds.specs.Filled.{Filled, Small}
+use Rattle.rounds.specs.InsertLaws.{noEntry, getD-in}
+use Rattle.walk.specs.Memo.{lineAt}
+use Rattle.walk.specs.Places.{PlacedHead, Placing}
+use Rattle.walk.specs.Jobs.{Late, Whole, Entered, Finished, subRuns, beginRuns, tagOf}
+use Rattle.rounds.specs.Scans.{NextRule, Highest, rulesBetween}
+use Rattle.walk.specs.JobLaws.{none-left}
+use Rattle.rounds.specs.ScanLaws.{next-is, none-next, rule-at}
+use Rattle.walk.specs.NextLaws.{beginOf, begin-at, pops, writes}
+use Rattle.walk.specs.declared.runs.Job.{Job}
+use Rattle.walk.proofs.Parts.{shifted-one, smaller, union-some, whole}
+use Rattle.walk.proofs.HeadPlaces.{before-head, after-head, skip-front, skip-end}
+use Rattle.walk.proofs.Enumerating.{given, Scanning, unchanged, named, noted, entry-small, added}
+use Rattle.rounds.specs.StoredRows.{entry-at}
+
+-- a set without its highest state, as the code takes the rest
+pub rest-is : (left q : ℕ) → Highest left q → left % (1 * 2 ^ q % 4294967296) ≡ left % 2 ^ q
+rest-is left q high = rw (shifted-one q (high .small))
+
+pub rest-below : (left q rest m : ℕ) → left < 2 ^ m → rest ≡ left % 2 ^ q → 0 < left → Highest left q → rest < 2 ^ m
+rest-below left q rest m small e some high = omega (arith, smaller left q some high)
+
+no-right : (b : Bool) {c : Bool} → c ≡ false → (b && c) ≡ false
+no-right true e = e
+no-right false e = refl
+
+-- a state of a set of states below m is below m
+pub state-of : (set q m : ℕ) → set < 2 ^ m → has set q ≡ true → q < m
+state-of set q m small there =
+    ⊎-elim (λ (t : ltb q m ≡ true). ltb-true q m t)
+    (λ (t : ltb q m ≡ false). clash there (has-above m set q small (ltb-false q m t)))
+    (test (ltb q m))
+
+module _ (g : PushdownGame) (old : List Entry) (birthdate n : ℕ) (job : Job) (rules work words : List ℕ) (count : ℕ) (memo : List ℕ) (s : Growing) (h : Entered g old birthdate n job rules work words count memo s) where
+  -- the entry that entry i's words are, and what is known of its set
+  abbrev entry : ℕ → Entry
+  entry i = getD old i noEntry
+
+  entry-is : (i : ℕ) → i < job .count → entryOf (wordsAt work i .first) (wordsAt work i .set) (wordsAt work i .rule) ≡ entry i
+  entry-is i l = entry-at n (job .count) work old (h .stands .stored) i l
+
+  entry-in : (i : ℕ) → i < job .count → entry i ∈ old
+  entry-in i l = getD-in noEntry old i (omega (arith, h .stands .stored .counted))
+
+  set-is : (i : ℕ) → i < job .count → wordsAt work i .set ≡ entry i .set
+  set-is i l = ap (λ (e : Entry). e .set) (entry-is i l)
+
+  set-some : (i : ℕ) → i < job .count → 0 < entry i .set
+  set-some i l = h .stands .stored .small (entry i) (entry-in i l) .filled
+
+  set-small : (i : ℕ) → i < job .count → entry i .set < 2 ^ g .states
+  set-small i l = h .stands .sets (entry i) (entry-in i l)
+
+  passed-some : (i u : ℕ) → i < job .count → 0 < union u (entry i .set)
+  passed-some i u l = union-some (g .states) u (entry i .set) (set-small i l) (set-some i l)
+
+  pub word-adds : (i u : ℕ) → i < job .count → 0 < union u (getD work (i * 3 + 1) 0)
+  word-adds i u l = rw (set-is i l) (passed-some i u l)
+
+  module _ (i : ℕ) (l : i < job .count) (w : EntryWords) (e : w ≡ wordsAt work i) where
+    pub words-are : entryOf (w .first) (w .set) (w .rule) ≡ entry i
+    words-are = rw e (entry-is i l)
+
+    pub set-of : w .set ≡ entry i .set
+    set-of = ap (λ (x : EntryWords). x .set) e ∙ set-is i l
+
+    pub set-below : w .set < 2 ^ g .states
+    set-below = rw set-of (set-small i l)
+
+    pub set-adds : (u : ℕ) → 0 < w .set + u
+    set-adds u = rw set-of (omega (arith, set-some i l))
+
+    pub union-adds : (u : ℕ) → 0 < union u (w .set)
+    union-adds u = rw set-of (passed-some i u l)
+
+    -- whether entry i is one of a head, by its state and its letter
+    pub other-state : (q c : ℕ) → (entryOf (w .first) (w .set) (w .rule) .state ≡ q → ⊥) → entryOfHead q c (entry i) ≡ false
+    unfolding entryOfHead
+    other-state q c ne = rw (← words-are, ne-eqb (entryOf (w .first) (w .set) (w .rule) .state) q ne)
+
+    pub other-letter : (q c : ℕ) → (entryOf (w .first) (w .set) (w .rule) .letter ≡ c → ⊥) → entryOfHead q c (entry i) ≡ false
+    unfolding entryOfHead
+    other-letter q c ne =
+        rw (← words-are)
+        (no-right (eqb (entryOf (w .first) (w .set) (w .rule) .state) q) (ne-eqb (entryOf (w .first) (w .set) (w .rule) .letter) c ne))
+
+    pub same-head : (q c : ℕ) → entryOf (w .first) (w .set) (w .rule) .state ≡ q → entryOf (w .first) (w .set) (w .rule) .letter ≡ c
+        → entryOfHead q c (entry i) ≡ true
+    unfolding entryOfHead
+    same-head q c es el =
+        rw (← words-are, eq-eqb (entryOf (w .first) (w .set) (w .rule) .state) q es, eq-eqb (entryOf (w .first) (w .set) (w .rule) .letter) c el)
+
+  -- rule r, as its bytes say
+  module _ (r : ℕ) (l : r < job .end) where
+    abbrev rule : Rule
+    rule = getD (g .rules) r noRule
+
+    pub within : r < length (g .rules)
+    within = omega (arith, h .stands .last)
+
+    rule-is : ruleAt rules (r * 6) (rule .number) ≡ rule
+    rule-is = rule-at rules (h .stands .slack) (g .rules) (h .stands .written) r within
+
+    pub to-is : getD rules (r * 6 + 2) 0 ≡ rule .to
+    to-is = ap (λ (x : Rule). x .to) rule-is
+
+    pub count-is : getD rules (r * 6 + 3) 0 ≡ rule .count
+    count-is = ap (λ (x : Rule). x .count) rule-is
+
+    pub above-is : getD rules (r * 6 + 4) 0 ≡ rule .above
+    above-is = ap (λ (x : Rule). x .above) rule-is
+
+    pub below-is : getD rules (r * 6 + 5) 0 ≡ rule .below
+    below-is = ap (λ (x : Rule). x .below) rule-is
+
+    pub to-small : rule .to < 32
+    to-small = omega (arith, h .stands .ranged .rule rule (getD-in noRule (g .rules) r within) .to, h .stands .ranged .controls)
+
+    -- where the entries of the heads stand that its runs pass
+    module _ (places : List ℕ) (placing : Placing g work (job .count) places) where
+      good-rule : GoodRule (g .control) (g .letters) rule
+      good-rule = h .stands .ranged .rule rule (getD-in noRule (g .rules) r within)
+
+      pub above-placed : PlacedHead work (job .count) places (getD rules (r * 6 + 2) 0) (getD rules (r * 6 + 4) 0)
+      above-placed =
+          rw (to-is, above-is) (placing (rule .to) (rule .above) (omega (arith, good-rule .to, h .stands .ranged .control)) (good-rule .above))
+
+      below-placed : (q : ℕ) → q < g .states → PlacedHead work (job .count) places q (rule .below)
+      below-placed q m = placing q (rule .below) m (good-rule .below)
+
+      -- as the code asks for them, for a state of a set
+      module _ (left q : ℕ) (small : left < 2 ^ g .states) (some : 0 < left) (high : Highest left q) where
+        placed-below : PlacedHead work (job .count) places q (rule .below)
+        placed-below = below-placed q (state-of left q (g .states) small (high .member some))
+
+        pub starts-below : (x : ℕ) → (PlacedHead work (job .count) places q (getD rules (r * 6 + 5) 0) → Placed work (job .count) (key q (getD rules (r * 6 + 5) 0) 0) x)
+            → Placed work (job .count) (key q (rule .below) 0) x
+        starts-below x f = rw below-is at f placed-below
+
+        pub ends-below : (x : ℕ) → (PlacedHead work (job .count) places q (getD rules (r * 6 + 5) 0) → Placed work (job .count) (key q (getD rules (r * 6 + 5) 0) 4294967296) x)
+            → Placed work (job .count) (key q (rule .below) 4294967296) x
+        ends-below x f = rw below-is at f placed-below
+
+      pub below-small : rule .below < 256
+      below-small = omega (arith, good-rule .below, h .stands .ranged .letters)
+
+  -- what a function leaves
+  abbrev Leaves : List ℕ → List ℕ → ℕ → List ℕ → Type 0
+  Leaves runs words′ count′ memo′ =
+      Finished g old birthdate n (map (entryAt (job .state) (job .letter) birthdate (job .field)) runs) s words′ count′ memo′
+
+  same-list : {xs ys : List ℕ} {words′ : List ℕ} {count′ : ℕ} {memo′ : List ℕ} → xs ≡ ys → Leaves ys words′ count′ memo′ → Leaves xs words′ count′ memo′
+  same-list {words′ = w} {count′ = k} {memo′ = m} e f = subst (λ (l : List ℕ). Leaves l w k m) (sym e) f
+
+  nothing : {xs : List ℕ} → xs ≡ [] → Leaves xs words count memo
+  unfolding growing
+  nothing e = same-list e (unchanged g old birthdate n job rules work words count memo s h [] refl)
+
+  -- `rules_after`: the memo has it, or it is finished and noted
+  pub hit : (r left u tag : ℕ) → Whole g job r → r < job .end → tag ≡ tagOf (job .state) (job .letter) r
+      → (k : ℕ) × (lineAt memo k ≡ record { tag = tag; left = left; union = u })
+      → Leaves (subRuns g old (job .state) (job .letter) (job .end) r left u) words count memo
+  hit r left u tag whole l e line =
+      named g old birthdate n job rules work words count memo s h r left u (line .0) whole (within r l) (rw e at (line .1))
+
+  pub notes : (r left u tag : ℕ) → Whole g job r → r < job .end → tag ≡ tagOf (job .state) (job .letter) r
+      → (words′ : List ℕ) (count′ : ℕ) (memo′ memo″ : List ℕ)
+      → Leaves (subRuns g old (job .state) (job .letter) (job .end) r left u) words′ count′ memo′
+      → ((k : ℕ) → (lineAt memo″ k ≡ record { tag = tag; left = left; union = u }) ⊎ (lineAt memo″ k ≡ lineAt memo′ k))
+      → Leaves (subRuns g old (job .state) (job .letter) (job .end) r left u) words′ count′ memo″
+  notes r left u tag whole l e words′ count′ memo′ memo″ f lines =
+      noted g old birthdate n job rules work words count memo s h r left u whole (within r l) words′ count′ memo′ memo″ f
+      (λ k. rw e at (lines k))
+
+  -- `runs_with`: entry i is no transition on the rule's upper letter, or it is, and the rule writes one letter or two
+  module _ (r i u : ℕ) where
+    abbrev first-of : Bool → Bool → List ℕ
+    first-of of one =
+        cond of
+        (cond one (subRuns g old (job .state) (job .letter) (job .end) r 0 (union u (entry i .set)))
+        (subRuns g old (job .state) (job .letter) (job .end) r (entry i .set) u))
+        []
+
+    abbrev rule-of : Rule
+    rule-of = getD (g .rules) r noRule
+
+    pub begins-none : entryOfHead (rule-of .to) (rule-of .above) (entry i) ≡ false
+        → Leaves (beginRuns g old (job .state) (job .letter) (job .end) r i u) words count memo
+    unfolding beginRuns
+    begins-none t = nothing (ap (λ (b : Bool). first-of b (eqb (rule-of .count) 1)) t)
+
+    pub begins-one : (set : ℕ) → set ≡ entry i .set → entryOfHead (rule-of .to) (rule-of .above) (entry i) ≡ true → rule-of .count ≡ 1
+        → {words′ : List ℕ} {count′ : ℕ} {memo′ : List ℕ}
+        → Leaves (subRuns g old (job .state) (job .letter) (job .end) r 0 (union u set)) words′ count′ memo′
+        → Leaves (beginRuns g old (job .state) (job .letter) (job .end) r i u) words′ count′ memo′
+    unfolding beginRuns
+    begins-one set e t one f =
+        same-list
+        (ap (λ (b : Bool). first-of b (eqb (rule-of .count) 1)) t
+        ∙ ap (first-of true) (eq-eqb (rule-of .count) 1 one)
+        ∙ ap (λ (x : ℕ). subRuns g old (job .state) (job .letter) (job .end) r 0 (union u x)) (sym e))
+        f
+
+    pub begins-two : (set : ℕ) → set ≡ entry i .set → entryOfHead (rule-of .to) (rule-of .above) (entry i) ≡ true → (rule-of .count ≡ 1 → ⊥)
+        → {words′ : List ℕ} {count′ : ℕ} {memo′ : List ℕ}
+        → Leaves (subRuns g old (job .state) (job .letter) (job .end) r set u) words′ count′ memo′
+        → Leaves (beginRuns g old (job .state) (job .letter) (job .end) r i u) words′ count′ memo′
+    unfolding beginRuns
+    begins-two set e t two f =
+        same-list
+        (ap (λ (b : Bool). first-of b (eqb (rule-of .count) 1)) t
+        ∙ ap (first-of true) (ne-eqb (rule-of .count) 1 two)
+        ∙ ap (λ (x : ℕ). subRuns g old (job .state) (job .letter) (job .end) r x u) (sym e))
+        f
+
+  -- `rules_from`: no rule is left, or the next one writes nothing, or it writes letters
+  module _ (from u r : ℕ) (next : NextRule rules (job .end) from (job .state) (job .letter) r) where
+    abbrev all : List ℕ
+    all = restRuns g old (rulesBetween g (job .state) (job .letter) from (job .end)) u
+
+    pub no-rule : job .end ≤ r → 0 < u → u < 2 ^ 32 → (words′ : List ℕ) (count′ : ℕ)
+        → (Small (entryOf (job .first) u (job .field)) → Filled n words′ count′ (grow n s (entryOf (job .first) u (job .field))))
+        → Leaves all words′ count′ memo
+    no-rule l some small words′ count′ f =
+        same-list
+        (ap (λ (rs : List Rule). restRuns g old rs u)
+        (none-next g (job .state) (job .letter) rules (h .stands .slack) (h .stands .written) (job .end) from r (h .stands .last) next l))
+        (added g old birthdate n job rules work u some small (h .stands) s words count memo h words′ count′
+        (f (entry-small g old birthdate n job rules work u some small (h .stands))))
+
+    module _ (l : r < job .end) where
+      split : (rulesBetween g (job .state) (job .letter) from (job .end) ≡ rule r l ∷ rulesBetween g (job .state) (job .letter) (suc r) (job .end)) × (ofHead (job .state) (job .letter) (rule r l) ≡ true)
+      split = next-is g (job .state) (job .letter) rules (h .stands .slack) (h .stands .written) (job .end) from r (h .stands .last) next l
+
+      pub job-of : Late g job from → Whole g job r
+      job-of late = whole g job old birthdate n rules work (h .stands) from r late (next .after) l (split .1)
+
+      -- the state that the rule goes to is joined
+      module _ (passed : ℕ) (j : getD rules (r * 6 + 2) 0 < 32 → passed ≡ union u (single (getD rules (r * 6 + 2) 0))) where
+        pub joins : passed ≡ union u (single (rule r l .to))
+        joins = rw (to-is r l) at j (to-small r l)
+
+        pub joins-some : 0 < passed
+        joins-some = rw joins (union-some 32 u (single (rule r l .to)) (pow-lt (to-small r l)) (pow-pos (rule r l .to)))
+
+      pub pops-first : rule r l .count ≡ 0 → (passed : ℕ) → passed ≡ union u (single (rule r l .to))
+          → {words′ : List ℕ} {count′ : ℕ} {memo′ : List ℕ}
+          → Leaves (subRuns g old (job .state) (job .letter) (job .end) r 0 passed) words′ count′ memo′ → Leaves all words′ count′ memo′
+      pops-first z passed e f =
+          same-list
+          (ap (λ (rs : List Rule). restRuns g old rs u) (split .0)
+          ∙ pops g old (job .state) (job .letter) (job .end) r u z
+          ∙ ap (λ (x : ℕ). subRuns g old (job .state) (job .letter) (job .end) r 0 x) (sym e))
+          f
+
+      pub writes-first : (rule r l .count ≡ 0 → ⊥) → {words′ : List ℕ} {count′ : ℕ} {memo′ : List ℕ}
+          → Leaves (flatMap (beginOf g old (job .state) (job .letter) (job .end) r u) old) words′ count′ memo′ → Leaves all words′ count′ memo′
+      writes-first z f =
+          same-list
+          (ap (λ (rs : List Rule). restRuns g old rs u) (split .0) ∙ writes g old (job .state) (job .letter) (job .end) r u z)
+          f
+
+  -- `rules_after`: no state is left
+  pub none-of-it : (r u : ℕ) {words′ : List ℕ} {count′ : ℕ} {memo′ : List ℕ}
+      → Leaves (restRuns g old (rulesBetween g (job .state) (job .letter) (r + 1) (job .end)) u) words′ count′ memo′
+      → Leaves (subRuns g old (job .state) (job .letter) (job .end) r 0 u) words′ count′ memo′
+  none-of-it r u f =
+      let next : suc r ≡ r + 1 = omega arith in
+      same-list
+      (none-left g old (job .state) (job .letter) (job .end) r u
+      ∙ ap (λ (k : ℕ). restRuns g old (rulesBetween g (job .state) (job .letter) k (job .end)) u) next)
+      f
+
+  -- what entry i gives, as the entries that are taken one after another have it
+  pub begun : (r i u : ℕ) {words′ : List ℕ} {count′ : ℕ} {memo′ : List ℕ}
+      → Leaves (beginRuns g old (job .state) (job .letter) (job .end) r i u) words′ count′ memo′
+      → Leaves (beginOf g old (job .state) (job .letter) (job .end) r u (entry i)) words′ count′ memo′
+  begun r i u f = same-list (sym (begin-at g old (job .state) (job .letter) (job .end) r i u)) f
+
+-- The entries of a head are taken from the place of its first one to the place after its last one, where the others give nothing.
+module _ (g : PushdownGame) (old : List Entry) (birthdate n : ℕ) (job : Job) (rules work : List ℕ) (f : Entry → List ℕ) (q a : ℕ) (none : (e : Entry) → entryOfHead q a e ≡ false → f e ≡ []) where
+  pub scan-from : (words : List ℕ) (count : ℕ) (memo : List ℕ) (s : Growing) → Entered g old birthdate n job rules work words count memo s
+      → (start : ℕ) → Placed work (job .count) (key q a 0) start → Scanning g old birthdate n job rules work f s start words count memo
+  scan-from words count memo s h start pl =
+      let st = h .stands .stored in
+      record {
+        now = s;
+        entered = h;
+        rest =
+            ap (λ (l : List ℕ). growing n (map (given g old birthdate n job rules work) l) s)
+            (skip-front f noEntry start old (omega (arith, pl .within, st .counted))
+            (λ i l. none (getD old i noEntry) (before-head n work (job .count) old st q a start pl i l)));
+      }
+
+  pub scan-to : (s : Growing) (i : ℕ) (words : List ℕ) (count : ℕ) (memo : List ℕ) → Scanning g old birthdate n job rules work f s i words count memo
+      → (end : ℕ) → Placed work (job .count) (key q a 4294967296) end → end ≤ i
+      → Finished g old birthdate n (map (given g old birthdate n job rules work) (flatMap f old)) s words count memo
+  unfolding growing
+  scan-to s i words count memo c end pl l =
+      let st = c .entered .stands .stored in
+      let e =
+      c .rest
+      ∙ ap (λ (l : List ℕ). growing n (map (given g old birthdate n job rules work) l) (c .now))
+      (skip-end f noEntry i old
+      (λ k m inside. none (getD old k noEntry) (after-head n work (job .count) old st q a end pl k (omega arith) inside)))
+      in
+      record { filled = rw e (c .entered .filled); memoed = rw e (c .entered .memoed) }
+
+-- an entry that is no transition of the head gives nothing
+pub begins-nothing : (g : PushdownGame) (old : List Entry) (p a end r u : ℕ) (q b : ℕ) → q ≡ getD (g .rules) r noRule .to → b ≡ getD (g .rules) r noRule .above
+    → (e : Entry) → entryOfHead q b e ≡ false → beginOf g old p a end r u e ≡ []
+begins-nothing g old p a end r u q b to above e t =
+    ap
+    (λ (of : Bool).
+    cond of
+    (cond (eqb (getD (g .rules) r noRule .count) 1) (subRuns g old p a end r 0 (union u (e .set))) (subRuns g old p a end r (e .set) u))
+    [])
+    (rw (to, above) at t)

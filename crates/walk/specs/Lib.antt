@@ -1,0 +1,9 @@
+pub mod Memo
+pub mod Jobs
+pub mod JobLaws
+pub mod NextLaws
+pub mod MemoLaws
+pub mod RoundJobs
+pub mod RoundJobLaws
+pub mod Places
+pub mod Walk

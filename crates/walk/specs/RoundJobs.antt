@@ -1,0 +1,61 @@
+-- The jobs of a round: for each rule of Éloise's head one, and one for Abelard's head from his first rule on; and the runs of a
+-- job by the first transition of its first rule.
+use Prim.Native.Nat.{ℕ, _+_, _*_, _≤_}
+use mathlib.Core.Path.{_≡_}
+use mathlib.Core.Bool.{Bool, cond}
+use mathlib.Core.List.{List}
+use lib.ListN.{getD}
+use lib.Dec.{eqb}
+use Rattle.game.specs.Sets.{has, single}
+use Rattle.game.specs.Game.{PushdownGame}
+use Rattle.game.specs.StoredLaws.{noRule}
+use Rattle.game.specs.declared.game.Sizes.{Sizes}
+use Rattle.table.specs.Table.{Entry, key, firstWord}
+use Rattle.table.specs.Rows.{Placed}
+use Rattle.walk.specs.Places.{PlacedHead}
+use Rattle.walk.specs.Memo.{lineAt}
+use Rattle.walk.specs.Jobs.{subRuns, beginRuns}
+use Rattle.walk.specs.declared.runs.Job.{Job}
+
+abbrev pub jobWith : Sizes → ℕ → ℕ → ℕ → ℕ → ℕ → Bool → Job
+jobWith sizes p a birthdate r old abelards =
+    record {
+      state = p;
+      letter = a;
+      first = firstWord p a birthdate;
+      field = cond abelards 0 (r + 1);
+      end = cond abelards (sizes .rulecount) (r + 1);
+      count = old;
+    }
+
+abbrev pub jobOf : Sizes → ℕ → ℕ → ℕ → ℕ → ℕ → Job
+jobOf sizes p a birthdate r old = jobWith sizes p a birthdate r old (has (sizes .abelard) p)
+
+-- how many runs a rule has by their first transition: one, where it writes nothing
+unfoldable pub runsOf : List ℕ → ℕ → ℕ → ℕ
+runsOf rules r old = cond (eqb (getD rules (r * 6 + 3) 0) 0) 1 old
+
+-- the unions of run i of rule r with one run for each of the job's later rules
+unfoldable pub runRuns : PushdownGame → List Entry → ℕ → ℕ → ℕ → ℕ → ℕ → List ℕ
+runRuns g old p a end r i =
+    let rule = getD (g .rules) r noRule in
+    cond (eqb (rule .count) 0) (subRuns g old p a end r 0 (single (rule .to))) (beginRuns g old p a end r i 0)
+
+-- a memo that names nothing
+abbrev pub Blank : List ℕ → Type 0
+Blank memo = (k : ℕ) → lineAt memo k .tag ≡ 0
+
+-- where the runs of a rule that writes letters begin and end in the old round, by the places of the head that it goes to
+pub record RunsStart (rules places : List ℕ) (r old start : ℕ) : Type 0 where
+  pub first : getD rules (r * 6 + 3) 0 ≡ 0 → start ≡ 0
+  pub within : start ≤ old
+  pub placed : (getD rules (r * 6 + 3) 0 ≡ 0 → ⊥) → (work : List ℕ)
+      → PlacedHead work old places (getD rules (r * 6 + 2) 0) (getD rules (r * 6 + 4) 0)
+      → Placed work old (key (getD rules (r * 6 + 2) 0) (getD rules (r * 6 + 4) 0) 0) start
+
+pub record RunsEnd (rules places : List ℕ) (r old end : ℕ) : Type 0 where
+  pub one : getD rules (r * 6 + 3) 0 ≡ 0 → end ≡ 1
+  pub within : (getD rules (r * 6 + 3) 0 ≡ 0 → ⊥) → end ≤ old
+  pub placed : (getD rules (r * 6 + 3) 0 ≡ 0 → ⊥) → (work : List ℕ)
+      → PlacedHead work old places (getD rules (r * 6 + 2) 0) (getD rules (r * 6 + 4) 0)
+      → Placed work old (key (getD rules (r * 6 + 2) 0) (getD rules (r * 6 + 4) 0) 4294967296) end

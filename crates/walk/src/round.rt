@@ -1,0 +1,189 @@
+// A round: what the runs of the old round give, head by head, rule by rule and run by run.
+use crate::memo::LINE;
+use crate::memo::LINES;
+use crate::places::PLACES;
+use crate::places::end_at;
+use crate::places::set_places;
+use crate::places::start_at;
+use crate::runs::Job;
+use crate::runs::joined;
+use crate::runs::rules_after;
+use crate::runs::runs_with;
+use game::Game;
+use game::Sizes;
+use game::has_state;
+use rounds::next_rule;
+use table::EntryWords;
+ghost use mathlib.Core.Path.{_≡_};
+ghost use mathlib.Core.List.{List, map};
+ghost use Prim.Native.Nat.{ℕ, _+_, _*_, _<_, _≤_};
+ghost use Rattle.game.specs.Limits.{maxRules};
+ghost use lib.ListN.{length};
+ghost use Rattle.game.specs.Game.{PushdownGame};
+ghost use Rattle.game.specs.GoodGame.{Good};
+ghost use Rattle.game.specs.Held.{Held, Safe};
+ghost use Rattle.table.specs.Table.{Entry};
+ghost use Rattle.rounds.specs.Rounds.{entryAt, candidates};
+ghost use Rattle.rounds.specs.RoundLaws.{AllRanged};
+ghost use Rattle.rounds.specs.Growing.{Growing, growing, partly};
+ghost use Rattle.rounds.specs.Filled.{Stored, Filled};
+ghost use Rattle.walk.specs.Jobs.{Able, Whole, Entered, Finished};
+ghost use Rattle.walk.specs.Places.{Placing};
+ghost use Rattle.walk.specs.RoundJobs.{jobOf, runsOf, runRuns, Blank, RunsStart, RunsEnd};
+
+// The next round, added to a table that holds the old one as `work` does: the number of entries afterwards, or one more than
+// the table can hold. The memo is the round's own.
+pub fn take_wide(
+    sizes: Sizes,
+    rules: &[u8],
+    work: &[u32],
+    table: &mut [u32],
+    old: usize,
+    birthdate: u32,
+) -> usize
+    requires { ⌜ Safe sizes (now rules) × (0 < sizes .letters) × (old * 3 ≤ length (now work)) × (birthdate < 65536) ⌝ }
+    ensures { λ r. ⌜ ((g : PushdownGame) (es : List Entry) (n : ℕ) → Held g sizes (now (rules .entry)) → Good g → AllRanged g es
+        → Stored n (now (work .entry)) old es → Stored n (now (table .entry)) old es
+        → Filled n (now (table .exit)) r (growing n (candidates g es birthdate) (partly es))) ⌝ }
+    ensures { λ _. ⌜ length (now (table .exit)) ≡ length (now (table .entry)) ⌝ }
+{
+    let mut places = [0usize; PLACES];
+    set_places(&mut places, work, old, sizes.states, sizes.letters);
+    let mut memo = [0u32; LINES * LINE];
+    add_runs(
+        sizes,
+        rules,
+        &places,
+        work,
+        table,
+        &mut memo,
+        old,
+        birthdate,
+    )
+}
+
+// The nest is left at the first entry beyond the table, whichever head or rule gave it. Abelard's head has one job, from his
+// first rule on; Éloise's has one for each rule.
+fn add_runs(
+    sizes: Sizes,
+    rules: &[u8],
+    places: &[usize],
+    work: &[u32],
+    table: &mut [u32],
+    memo: &mut [u32],
+    old: usize,
+    birthdate: u32,
+) -> usize
+    requires { ⌜ Safe sizes (now rules) × (0 < sizes .letters) × (old * 3 ≤ length (now work)) × (birthdate < 65536) ⌝ }
+    ensures { λ r. ⌜ ((g : PushdownGame) (es : List Entry) (n : ℕ) → Held g sizes (now (rules .entry)) → Good g → AllRanged g es
+        → Stored n (now (work .entry)) old es → Stored n (now (table .entry)) old es → Placing g (now (work .entry)) old (now (places .entry)) → Blank (now (memo .entry))
+        → Filled n (now (table .exit)) r (growing n (candidates g es birthdate) (partly es))) ⌝ }
+    ensures { λ _. ⌜ length (now (table .exit)) ≡ length (now (table .entry)) ⌝ }
+{
+    let size = table.len() / EntryWords::STRIDE;
+    let letters = sizes.letters as usize;
+    let heads = (sizes.control as usize) * letters;
+    let rulecount = sizes.rulecount;
+    let mut count = old;
+    let mut head = 0;
+    'round: while head < heads {
+        let p = (head / letters) as u8;
+        let a = (head % letters) as u8;
+        let mut r = next_rule(rules, rulecount, 0, p, a);
+        while r < rulecount {
+            let job = job_of(sizes, p, a, birthdate, r, old);
+            let end = runs_end(rules, places, r, old);
+            let mut i = runs_start(rules, places, r, old);
+            while i < end {
+                count = run_at(job, rules, places, work, table, memo, count, r, i);
+                if size < count {
+                    break 'round;
+                }
+                i += 1;
+            }
+            r = next_rule(rules, rulecount, job.end, p, a);
+        }
+        head += 1;
+    }
+    count
+}
+
+// The job of rule r of a head: Abelard's takes one run for each of his rules, Éloise's the rule by itself.
+fn job_of(sizes: Sizes, p: u8, a: u8, birthdate: u32, r: usize, old: usize) -> Job
+    requires { ⌜ (birthdate < 65536) × (r < maxRules) ⌝ }
+    ensures { λ x. ⌜ x ≡ jobOf sizes p a birthdate r old ⌝ }
+{
+    let first = (p as u32) + 256 * (a as u32) + 65536 * birthdate;
+    if has_state(sizes.abelard, p) {
+        return Job {
+            state: p,
+            letter: a,
+            first,
+            field: 0,
+            end: sizes.rulecount,
+            count: old,
+        };
+    }
+    Job {
+        state: p,
+        letter: a,
+        first,
+        field: (r as u32) + 1,
+        end: r + 1,
+        count: old,
+    }
+}
+
+// Where a rule's runs begin and end, by their first transition: there is one, where it writes nothing.
+fn runs_start(rules: &[u8], places: &[usize], r: usize, old: usize) -> usize
+    requires { ⌜ (r + 1) * 6 ≤ length (now rules) ⌝ }
+    ensures { λ x. ⌜ RunsStart (now (rules .entry)) (now (places .entry)) r old x ⌝ }
+{
+    let at = r * Game::RULE_STRIDE;
+    if rules[at + 3] == 0 {
+        return 0;
+    }
+    start_at(places, old, rules[at + 2], rules[at + 4])
+}
+
+fn runs_end(rules: &[u8], places: &[usize], r: usize, old: usize) -> usize
+    requires { ⌜ (r + 1) * 6 ≤ length (now rules) ⌝ }
+    ensures { λ x. ⌜ RunsEnd (now (rules .entry)) (now (places .entry)) r old x ⌝ }
+{
+    let at = r * Game::RULE_STRIDE;
+    if rules[at + 3] == 0 {
+        return 1;
+    }
+    end_at(places, old, rules[at + 2], rules[at + 4])
+}
+
+// Run i of rule r, with those of the job's later rules.
+fn run_at(
+    job: Job,
+    rules: &[u8],
+    places: &[usize],
+    work: &[u32],
+    table: &mut [u32],
+    memo: &mut [u32],
+    count: usize,
+    r: usize,
+    i: usize,
+) -> usize
+    requires { ⌜ Able job (length (now rules)) (length (now work)) × (r < job .end) × (i < runsOf (now rules) r (job .count)) ⌝ }
+    ensures { λ x. ⌜ ((g : PushdownGame) (old : List Entry) (birthdate n : ℕ) (s : Growing)
+        → Entered g old birthdate n job (now (rules .entry)) (now (work .entry)) (now (table .entry)) count (now (memo .entry)) s
+        → Placing g (now (work .entry)) (job .count) (now (places .entry))
+        → Whole g job r
+        → Finished g old birthdate n
+        (map (entryAt (job .state) (job .letter) birthdate (job .field)) (runRuns g old (job .state) (job .letter) (job .end) r i))
+        s (now (table .exit)) x (now (memo .exit))) ⌝ }
+    ensures { λ _. ⌜ length (now (table .exit)) ≡ length (now (table .entry)) ⌝ }
+    ensures { λ _. ⌜ length (now (memo .exit)) ≡ length (now (memo .entry)) ⌝ }
+{
+    let at = r * Game::RULE_STRIDE;
+    if rules[at + 3] == 0 {
+        let passed = joined(0, rules[at + 2]);
+        return rules_after(job, rules, places, work, table, memo, count, r, passed);
+    }
+    runs_with(job, rules, places, work, table, memo, count, r, i, 0)
+}

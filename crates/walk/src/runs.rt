@@ -1,0 +1,291 @@
+// The enumeration of runs by functions that call each other: one run for each rule of a job, the runs of a rule by their
+// first transition, one transition for each state left of a set. Each adds the entries of the unions that it ends in.
+use crate::memo::finish;
+use crate::memo::is_finished;
+use crate::places::end_at;
+use crate::places::start_at;
+use game::Game;
+use rounds::highest;
+use rounds::insert;
+use rounds::next_rule;
+use table::EntryWords;
+ghost use mathlib.Core.Path.{_≡_};
+ghost use mathlib.Core.List.{List, map};
+ghost use Prim.Native.Nat.{ℕ, _+_, _*_, _^_, _<_, _≤_};
+ghost use Rattle.game.specs.Limits.{maxStates, maxRules};
+ghost use lib.ListN.{length};
+ghost use Rattle.game.specs.Game.{PushdownGame};
+ghost use Rattle.game.specs.Sets.{single, union as unite};
+ghost use Rattle.table.specs.Table.{Entry};
+ghost use Rattle.rounds.specs.Rounds.{entryAt};
+ghost use Rattle.rounds.specs.Enumeration.{restRuns};
+ghost use Rattle.rounds.specs.Growing.{Growing};
+ghost use Rattle.walk.specs.Places.{Placing};
+ghost use Rattle.walk.specs.Walk.{Skipped};
+ghost use Rattle.rounds.specs.Scans.{rulesBetween};
+ghost use Rattle.walk.specs.Jobs.{tagOf, Able, Late, Whole, Entered, Finished, subRuns, beginRuns};
+
+// What an enumeration is for: a head, the entries' first word and rule field, the rules' end, and the old round's size.
+pub struct Job {
+    pub state: u8,
+    pub letter: u8,
+    pub first: u32,
+    pub field: u32,
+    pub end: usize,
+    pub count: usize,
+}
+
+// A set with a state more; the set itself, where there is no such state.
+pub fn joined(set: u32, s: u8) -> u32
+    ensures { λ r. ⌜ (s < maxStates → r ≡ unite set (single s)) ⌝ }
+{
+    if Game::MAX_STATES <= s {
+        return set;
+    }
+    set | (1u32 << s)
+}
+
+// A number of its own for each head and rule, never 0.
+pub fn tag_of(state: u8, letter: u8, r: usize) -> u32
+    requires { ⌜ r < maxRules ⌝ }
+    ensures { λ x. ⌜ x ≡ tagOf state letter r ⌝ }
+{
+    ((state as u32) * (Game::MAX_LETTERS as u32) + (letter as u32)) * (Game::MAX_RULES as u32)
+        + (r as u32)
+        + 1
+}
+
+// One run for each rule of the job from place `from` on, united with what was passed.
+pub fn rules_from(
+    job: Job,
+    rules: &[u8],
+    places: &[usize],
+    work: &[u32],
+    table: &mut [u32],
+    memo: &mut [u32],
+    count: usize,
+    from: usize,
+    union: u32,
+) -> usize
+    requires { ⌜ Able job (length (now rules)) (length (now work)) × (from ≤ job .end) ⌝ }
+    ensures { λ x. ⌜ ((g : PushdownGame) (old : List Entry) (birthdate n : ℕ) (s : Growing)
+        → Entered g old birthdate n job (now (rules .entry)) (now (work .entry)) (now (table .entry)) count (now (memo .entry)) s
+        → Placing g (now (work .entry)) (job .count) (now (places .entry))
+        → Late g job from → 0 < union
+        → Finished g old birthdate n
+        (map (entryAt (job .state) (job .letter) birthdate (job .field)) (restRuns g old (rulesBetween g (job .state) (job .letter) from (job .end)) union))
+        s (now (table .exit)) x (now (memo .exit))) ⌝ }
+    ensures { λ _. ⌜ length (now (table .exit)) ≡ length (now (table .entry)) ⌝ }
+    ensures { λ _. ⌜ length (now (memo .exit)) ≡ length (now (memo .entry)) ⌝ }
+{
+    let r = next_rule(rules, job.end, from, job.state, job.letter);
+    if job.end <= r {
+        let entry = EntryWords {
+            first: job.first,
+            set: union,
+            rule: job.field,
+        };
+        return insert(table, count, entry);
+    }
+    let at = r * Game::RULE_STRIDE;
+    if rules[at + 3] == 0 {
+        let passed = joined(union, rules[at + 2]);
+        return rules_after(job, rules, places, work, table, memo, count, r, passed);
+    }
+    let end = end_at(places, job.count, rules[at + 2], rules[at + 4]);
+    let mut filled = count;
+    let mut i = start_at(places, job.count, rules[at + 2], rules[at + 4]);
+    while i < end {
+        filled = runs_with(job, rules, places, work, table, memo, filled, r, i, union);
+        i += 1;
+    }
+    filled
+}
+
+// The runs of rule r that begin with entry i of the old round.
+pub fn runs_with(
+    job: Job,
+    rules: &[u8],
+    places: &[usize],
+    work: &[u32],
+    table: &mut [u32],
+    memo: &mut [u32],
+    count: usize,
+    r: usize,
+    i: usize,
+    union: u32,
+) -> usize
+    requires { ⌜ Able job (length (now rules)) (length (now work)) × (r < job .end) × (i < job .count) ⌝ }
+    ensures { λ x. ⌜ ((g : PushdownGame) (old : List Entry) (birthdate n : ℕ) (s : Growing)
+        → Entered g old birthdate n job (now (rules .entry)) (now (work .entry)) (now (table .entry)) count (now (memo .entry)) s
+        → Placing g (now (work .entry)) (job .count) (now (places .entry))
+        → Whole g job r
+        → Finished g old birthdate n
+        (map (entryAt (job .state) (job .letter) birthdate (job .field)) (beginRuns g old (job .state) (job .letter) (job .end) r i union))
+        s (now (table .exit)) x (now (memo .exit))) ⌝ }
+    ensures { λ _. ⌜ length (now (table .exit)) ≡ length (now (table .entry)) ⌝ }
+    ensures { λ _. ⌜ length (now (memo .exit)) ≡ length (now (memo .entry)) ⌝ }
+{
+    let entry = EntryWords::at(work, i);
+    let at = r * Game::RULE_STRIDE;
+    if entry.state() != rules[at + 2] {
+        return count;
+    }
+    if entry.letter() != rules[at + 4] {
+        return count;
+    }
+    if rules[at + 3] == 1 {
+        return rules_after(
+            job,
+            rules,
+            places,
+            work,
+            table,
+            memo,
+            count,
+            r,
+            union | entry.set,
+        );
+    }
+    if entry.set == 0 {
+        return count;
+    }
+    pass_states(
+        job,
+        rules,
+        places,
+        work,
+        table,
+        memo,
+        count,
+        r,
+        entry.set,
+        union,
+    )
+}
+
+// Rule r is passed, with a union in hand: the job's later rules, unless the memo has it.
+pub fn rules_after(
+    job: Job,
+    rules: &[u8],
+    places: &[usize],
+    work: &[u32],
+    table: &mut [u32],
+    memo: &mut [u32],
+    count: usize,
+    r: usize,
+    union: u32,
+) -> usize
+    requires { ⌜ Able job (length (now rules)) (length (now work)) × (r < job .end) ⌝ }
+    ensures { λ x. ⌜ ((g : PushdownGame) (old : List Entry) (birthdate n : ℕ) (s : Growing)
+        → Entered g old birthdate n job (now (rules .entry)) (now (work .entry)) (now (table .entry)) count (now (memo .entry)) s
+        → Placing g (now (work .entry)) (job .count) (now (places .entry))
+        → Whole g job r → 0 < union
+        → Finished g old birthdate n
+        (map (entryAt (job .state) (job .letter) birthdate (job .field)) (subRuns g old (job .state) (job .letter) (job .end) r 0 union))
+        s (now (table .exit)) x (now (memo .exit))) ⌝ }
+    ensures { λ _. ⌜ length (now (table .exit)) ≡ length (now (table .entry)) ⌝ }
+    ensures { λ _. ⌜ length (now (memo .exit)) ≡ length (now (memo .entry)) ⌝ }
+{
+    let tag = tag_of(job.state, job.letter, r);
+    if is_finished(memo, tag, 0, union) {
+        return count;
+    }
+    let filled = rules_from(job, rules, places, work, table, memo, count, r + 1, union);
+    finish(memo, tag, 0, union);
+    filled
+}
+
+// One transition for each of the states of a set, then the job's later rules. A level is a set of
+// states left, the union in hand and the next entry to take; the highest state left is passed by each of its transitions in
+// turn, and a transition that the memo does not have opens the level of the states below. The levels above the last one
+// wait in three arrays: there are no more than states.
+fn pass_states(
+    job: Job,
+    rules: &[u8],
+    places: &[usize],
+    work: &[u32],
+    table: &mut [u32],
+    memo: &mut [u32],
+    count: usize,
+    r: usize,
+    set: u32,
+    reached: u32,
+) -> usize
+    requires { ⌜ Able job (length (now rules)) (length (now work)) × (r < job .end) × (0 < set) ⌝ }
+    ensures { λ x. ⌜ ((g : PushdownGame) (old : List Entry) (birthdate n : ℕ) (s : Growing)
+        → Entered g old birthdate n job (now (rules .entry)) (now (work .entry)) (now (table .entry)) count (now (memo .entry)) s
+        → Placing g (now (work .entry)) (job .count) (now (places .entry))
+        → Whole g job r → set < 2 ^ g .states
+        → Finished g old birthdate n
+        (map (entryAt (job .state) (job .letter) birthdate (job .field)) (subRuns g old (job .state) (job .letter) (job .end) r set reached))
+        s (now (table .exit)) x (now (memo .exit))) ⌝ }
+    ensures { λ _. ⌜ length (now (table .exit)) ≡ length (now (table .entry)) ⌝ }
+    ensures { λ _. ⌜ length (now (memo .exit)) ≡ length (now (memo .entry)) ⌝ }
+{
+    let tag = tag_of(job.state, job.letter, r);
+    let below = rules[r * Game::RULE_STRIDE + 5];
+    let mut lefts = [0u32; Game::MAX_STATES as usize];
+    let mut unions = [0u32; Game::MAX_STATES as usize];
+    let mut nexts = [0usize; Game::MAX_STATES as usize];
+    let mut depth = 0;
+    let mut filled = count;
+    let mut left = set;
+    let mut union = reached;
+    let mut i = start_at(places, job.count, highest(set), below);
+    loop {
+        let q = highest(left);
+        let rest = left % (1u32 << q);
+        let end = end_at(places, job.count, q, below);
+        let found = next_open(work, memo, tag, rest, union, i, end);
+        if end <= found {
+            if depth == 0 {
+                return filled;
+            }
+            finish(memo, tag, left, union);
+            depth -= 1;
+            left = lefts[depth];
+            union = unions[depth];
+            i = nexts[depth];
+            continue;
+        }
+        let passed = union | work[found * EntryWords::STRIDE + 1];
+        if rest == 0 {
+            filled = rules_after(job, rules, places, work, table, memo, filled, r, passed);
+            i = found + 1;
+            continue;
+        }
+        lefts[depth] = left;
+        unions[depth] = union;
+        nexts[depth] = found + 1;
+        depth += 1;
+        left = rest;
+        union = passed;
+        i = start_at(places, job.count, highest(rest), below);
+    }
+}
+
+// The first place from `from` on, up to `end`, of an entry that the memo does not have: its set, united with what was passed,
+// with the states `rest` left.
+fn next_open(
+    work: &[u32],
+    memo: &[u32],
+    tag: u32,
+    rest: u32,
+    union: u32,
+    from: usize,
+    end: usize,
+) -> usize
+    requires { ⌜ end * 3 ≤ length (now work) ⌝ }
+    ensures { λ r. ⌜ Skipped (now (work .entry)) (now (memo .entry)) tag rest union from end r ⌝ }
+{
+    let mut i = from;
+    while i < end {
+        let passed = union | work[i * EntryWords::STRIDE + 1];
+        if !is_finished(memo, tag, rest, passed) {
+            return i;
+        }
+        i += 1;
+    }
+    i
+}
