@@ -4,7 +4,7 @@ use native.Mathlib.Omega.{arith}
 use native.Mathlib.Nat.{mod-lt}
 use mathlib.Core.Path.{_≡_, refl, sym, ap, ap₂, _∙_}
 use mathlib.Core.Logic.{⊎-elim}
-use mathlib.Core.Bool.{Bool, true, false, _&&_, _||_}
+use mathlib.Core.Bool.{Bool, true, false, not, _&&_, _||_, or-false}
 use mathlib.Core.List.{List}
 use lib.ListN.{length, getD, set, length-set}
 use lib.Seq.{getD-set-same, getD-set-other}
@@ -14,8 +14,10 @@ use borrow.Author.Tests.{eqb-true, eqb-false}
 use Rattle.game.specs.Sets.{has}
 use Rattle.game.specs.SetLaws.{none-has, single-has, has-single}
 use Rattle.game.specs.ListLaws.{test}
-use Rattle.family.specs.Family.{holds, Elsewhere, Put, Cleared, Copied, Joined, Without}
-use Rattle.family.proofs.Digits.{has-or, has-less, digit-shift}
+use Rattle.family.specs.Family.{holds, Elsewhere, Put, Cleared, Copied, Joined, Without, TakenIn}
+use Rattle.family.specs.DigitLaws.{has-or, has-less}
+use Rattle.family.proofs.Digits.{digit-shift}
+use Rattle.family.proofs.Places.{at-front}
 
 pub holds-is : (words : List ℕ) (at x : ℕ) → eqb (getD words (at + x / 64) 0 / 2 ^ (x % 64) % 2) 1 ≡ holds words at x
 unfolding holds has
@@ -31,10 +33,6 @@ only q s =
     (λ (u : has (2 ^ q) s ≡ false). u ∙ sym t)
     (test (has (2 ^ q) s)))
     (test (eqb s q))
-
-or-false : (b : Bool) → (b || false) ≡ b
-or-false true = refl
-or-false false = refl
 
 -- a set put in
 pub put-in : (words : List ℕ) (at x : ℕ) → at + x / 64 < length words
@@ -171,3 +169,42 @@ module _ (old : List ℕ) (to n : ℕ) (others : List ℕ) (at : ℕ) (words : L
             ∙ has-less (getD old (to + x / 64) 0) (getD others (at + x / 64) 0) (x % 64);
         elsewhere = walked-else old to n (without old to others at) words i w end;
       }
+
+-- the words of a family without one at a place, and of that one with the first
+abbrev pub fresh : List ℕ → List ℕ → ℕ → ℕ → ℕ
+fresh d all to j = bitXor (getD d j 0) (bitAnd (getD d j 0) (getD all (to + j) 0))
+
+abbrev pub grown : List ℕ → List ℕ → ℕ → ℕ → ℕ
+grown d all to j = bitOr (getD all (to + j) 0) (fresh d all to j)
+
+pub taken-all : (n : ℕ) (d : List ℕ) (to : ℕ) (before all old new : List ℕ) (i : ℕ) → Walked before to n (grown d before to) all i
+    → Walked old to n (fresh d before to) new i → n ≤ i → TakenIn n d to before all old new
+unfolding holds
+taken-all n d to before all old new i w v end =
+    record {
+      here =
+          λ x l.
+          walked-here before to n (grown d before to) all i w end x l
+          ∙ has-or (getD before (to + x / 64) 0) (fresh d before to (x / 64)) (x % 64)
+          ∙ ap (has (getD before (to + x / 64) 0) (x % 64) ||_) (has-less (getD d (x / 64) 0) (getD before (to + x / 64) 0) (x % 64))
+          ∙ gained (has (getD before (to + x / 64) 0) (x % 64)) (has (getD d (x / 64) 0) (x % 64))
+          ∙ ap (holds before to x ||_) (sym (at-front d x (x / 64) refl));
+      fresh =
+          λ x l.
+          walked-here old to n (fresh d before to) new i v end x l
+          ∙ has-less (getD d (x / 64) 0) (getD before (to + x / 64) 0) (x % 64)
+          ∙ ap (_&& not (holds before to x)) (sym (at-front d x (x / 64) refl));
+      elsewhere = walked-else before to n (grown d before to) all i w end;
+      apart = walked-else old to n (fresh d before to) new i v end;
+    }
+  where
+    gained : (p q : Bool) → (p || (q && not p)) ≡ (p || q)
+    gained true q = refl
+    gained false true = refl
+    gained false false = refl
+
+-- the words before place i have no set
+pub empty-all : (words : List ℕ) (at n i : ℕ) → ((j : ℕ) → j < i → getD words (at + j) 0 ≡ 0) → n ≤ i
+    → (x : ℕ) → x / 64 < n → holds words at x ≡ false
+unfolding holds
+empty-all words at n i none-in end x l = ap (λ (v : ℕ). has v (x % 64)) (none-in (x / 64) (omega arith)) ∙ none-has (x % 64)

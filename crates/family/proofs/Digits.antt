@@ -4,7 +4,7 @@ use native.Mathlib.Omega.{arith}
 use native.Mathlib.Nat.{mod-lt, one-mul, mod-eq-of-lt, add-mul-div-right}
 use mathlib.Core.Path.{_≡_, refl, sym, ap, _∙_}
 use mathlib.Core.Logic.{⊎-elim}
-use mathlib.Core.Bool.{Bool, true, false, not, _&&_, _||_}
+use mathlib.Core.Bool.{Bool, true, false, not, _&&_, _||_, and-true, and-false}
 use lib.Bits.{bitAnd, bitOr, bitXor, differ, and-shr, or-shr, xor-shr, and-step, or-step, xor-step, and-high, or-add-and}
 use lib.Pow.{pow-lt, pow-pos, pow-add, field, shl-shr, shr-shr, mod-mod-pow}
 use lib.Dec.{eqb, ltb}
@@ -14,95 +14,10 @@ use Rattle.game.specs.Sets.{has, union}
 use Rattle.game.specs.SetLaws.{has-above}
 use Rattle.game.specs.ListLaws.{allBelow-at, test, clash}
 use Rattle.game.specs.Questions.{allBelow}
-
--- of two digits: both are 1, one is
-both-one : (m n : ℕ) → m < 2 → n < 2 → eqb (min m n) 1 ≡ (eqb m 1 && eqb n 1)
-both-one m n l k =
-    ⊎-elim
-    (λ (t : eqb m 1 ≡ true).
-    let one = eqb-true m 1 t in
-    let same : min m n ≡ n = omega arith in
-    rw (t, same) refl)
-    (λ (t : eqb m 1 ≡ false).
-    let none = eqb-false m 1 t in
-    rw (t, ne-eqb (min m n) 1 (λ e. omega (arith, none))) refl)
-    (test (eqb m 1))
-
-one-is : (m n : ℕ) → m < 2 → n < 2 → eqb (max m n) 1 ≡ (eqb m 1 || eqb n 1)
-one-is m n l k =
-    ⊎-elim
-    (λ (t : eqb m 1 ≡ true).
-    let one = eqb-true m 1 t in
-    rw (t, eq-eqb (max m n) 1 (omega arith)) refl)
-    (λ (t : eqb m 1 ≡ false).
-    let none = eqb-false m 1 t in
-    let same : max m n ≡ n = omega (arith, none) in
-    rw (t, same) refl)
-    (test (eqb m 1))
-
-and-last : (a b : ℕ) → bitAnd a b % 2 ≡ min (a % 2) (b % 2)
-and-last a b = omega (arith, and-step a b, mod-lt a two, mod-lt b two)
-  where
-    two : 0 < 2
-    two = omega arith
-
-or-last : (a b : ℕ) → bitOr a b % 2 ≡ max (a % 2) (b % 2)
-or-last a b = omega (arith, or-step a b, mod-lt a two, mod-lt b two)
-  where
-    two : 0 < 2
-    two = omega arith
-
-has-and : (a b s : ℕ) → has (bitAnd a b) s ≡ (has a s && has b s)
-unfolding has
-has-and a b s =
-    let x = a / 2 ^ s in
-    let y = b / 2 ^ s in
-    ap (λ (z : ℕ). eqb (z % 2) 1) (and-shr a b s)
-    ∙ ap (λ (z : ℕ). eqb z 1) (and-last x y)
-    ∙ both-one (x % 2) (y % 2) (mod-lt x (omega arith)) (mod-lt y (omega arith))
-
-pub has-or : (a b s : ℕ) → has (bitOr a b) s ≡ (has a s || has b s)
-unfolding has
-has-or a b s =
-    let x = a / 2 ^ s in
-    let y = b / 2 ^ s in
-    ap (λ (z : ℕ). eqb (z % 2) 1) (or-shr a b s)
-    ∙ ap (λ (z : ℕ). eqb z 1) (or-last x y)
-    ∙ one-is (x % 2) (y % 2) (mod-lt x (omega arith)) (mod-lt y (omega arith))
-
--- of two digits: the first is 1 and the second is not
-less-one : (m n : ℕ) → m < 2 → n < 2 → eqb (differ m (min m n)) 1 ≡ (eqb m 1 && not (eqb n 1))
-less-one zero zero l k = refl
-less-one zero (suc zero) l k = refl
-less-one zero (suc (suc n)) l k = absurd (omega arith)
-less-one (suc zero) zero l k = refl
-less-one (suc zero) (suc zero) l k = refl
-less-one (suc zero) (suc (suc n)) l k = absurd (omega arith)
-less-one (suc (suc m)) n l k = absurd (omega arith)
-
-differ-small : (m n : ℕ) → m < 2 → n < 2 → differ m n < 2
-differ-small zero n l k = k
-differ-small (suc zero) zero l k = l
-differ-small (suc zero) (suc zero) l k = omega arith
-differ-small (suc zero) (suc (suc n)) l k = absurd (omega arith)
-differ-small (suc (suc m)) n l k = absurd (omega arith)
-
-xor-last : (a b : ℕ) → bitXor a b % 2 ≡ differ (a % 2) (b % 2)
-xor-last a b =
-    ap (λ (z : ℕ). z % 2) (xor-step a b)
-    ∙ digits-mod (bitXor (a / 2) (b / 2)) (differ-small (a % 2) (b % 2) (mod-lt a (omega arith)) (mod-lt b (omega arith)))
-
-pub has-less : (a b s : ℕ) → has (bitXor a (bitAnd a b)) s ≡ (has a s && not (has b s))
-unfolding has
-has-less a b s =
-    let x = a / 2 ^ s in
-    let y = b / 2 ^ s in
-    ap (λ (z : ℕ). eqb (z % 2) 1) (xor-shr a (bitAnd a b) s ∙ ap (bitXor x) (and-shr a b s))
-    ∙ ap (λ (z : ℕ). eqb z 1) (xor-last x (bitAnd x y) ∙ ap (differ (x % 2)) (and-last x y))
-    ∙ less-one (x % 2) (y % 2) (mod-lt x (omega arith)) (mod-lt y (omega arith))
+use Rattle.family.specs.DigitLaws.{has-and, has-or}
 
 -- a word shifted within 64 bits
-has-shifted : (w k s : ℕ) → k ≤ s → s < 64 → has (w * 2 ^ k % 2 ^ 64) s ≡ has w (s - k)
+pub has-shifted : (w k s : ℕ) → k ≤ s → s < 64 → has (w * 2 ^ k % 2 ^ 64) s ≡ has w (s - k)
 unfolding has
 has-shifted w k s l m =
     let whole : 64 ≡ (63 - s) + 1 + s = omega arith in
@@ -178,14 +93,6 @@ with-more w mask e s m l =
     ∙ and-false (has (bitOr w (w * 2 ^ (2 ^ e) % 2 ^ 64)) s)
     ∙ sym (ap (_&& (has w s || has w (s - 2 ^ e))) t))
     (test (has s e))
-  where
-    and-true : (b : Bool) → (b && true) ≡ b
-    and-true true = refl
-    and-true false = refl
-
-    and-false : (b : Bool) → (b && false) ≡ false
-    and-false true = refl
-    and-false false = refl
 
 -- one digit shifted within 64 bits, and by a state below 6
 pub digit-shift : (j : ℕ) → j < 64 → 1 * 2 ^ j % 2 ^ 64 ≡ 2 ^ j

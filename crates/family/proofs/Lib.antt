@@ -1,4 +1,10 @@
 pub mod Areas
 pub mod Digits
+pub mod Filling
+pub mod Inside
+pub mod Into
+pub mod Lifting
+pub mod Places
 pub mod Rows
+pub mod Subsets
 pub mod Unions

@@ -7,41 +7,14 @@ use mathlib.Core.Logic.{_⊎_, inl, inr, ⊎-elim}
 use mathlib.Core.Bool.{true, false}
 use mathlib.Core.List.{List}
 use lib.ListN.{length, getD, set, length-set}
-use lib.Seq.{getD-set-same, getD-set-other}
-use lib.Bits.{bitOr, or-block}
-use lib.Dec.{eqb, ltb}
-use borrow.Author.Tests.{eqb-true, eqb-false, ltb-true, ltb-false}
+use lib.Bits.{bitOr}
+use lib.Dec.{ltb}
+use borrow.Author.Tests.{ltb-true, ltb-false}
 use Rattle.game.specs.Sets.{has, union}
-use Rattle.game.specs.SetLaws.{union-below, union-has, left-union, right-union, none-has}
+use Rattle.game.specs.SetLaws.{union-below, none-has}
 use Rattle.game.specs.ListLaws.{test, clash}
 use Rattle.family.specs.Family.{holds, Unites, UnionIn, Row, Product, Cleared}
-
--- a set by its word and its place there
-at-word : (words : List ℕ) (at x j : ℕ) → x / 64 ≡ j → holds words at x ≡ has (getD words (at + j) 0) (x % 64)
-unfolding holds
-at-word words at x j e = ap (λ (k : ℕ). has (getD words (at + k) 0) (x % 64)) e
-
-at-front : (words : List ℕ) (x j : ℕ) → x / 64 ≡ j → holds words 0 x ≡ has (getD words j 0) (x % 64)
-unfolding holds
-at-front words x j e =
-    let here : 0 + x / 64 ≡ j = omega (arith, e) in
-    ap (λ (k : ℕ). has (getD words k 0) (x % 64)) here
-
-word-is : (j s : ℕ) → s < 64 → (j * 64 + s) / 64 ≡ j
-word-is j s l = omega arith
-
-bit-is : (j s : ℕ) → s < 64 → (j * 64 + s) % 64 ≡ s
-bit-is j s l = omega arith
-
--- a union by the words and the places
-union-parts : (i j s t : ℕ) → s < 64 → t < 64 → union (i * 64 + s) (j * 64 + t) ≡ union i j * 64 + union s t
-union-parts i j s t l m = or-block 6 i j s t l m
-
-pub union-place : (i j n : ℕ) → i < 16 → j < n → n ≤ 16 → union i j < 16
-union-place i j n l m k = union-below 4 i j l (omega arith)
-
-whole : (x j : ℕ) → x / 64 ≡ j → x ≡ j * 64 + x % 64
-whole x j e = omega (arith, e)
+use Rattle.family.proofs.Places.{at-word, at-front, of-word, of-front, whole, union-parts, joined-kept, joined-from, joined-into}
 
 wider : {A : Type 0} (j word i : ℕ) (others : List ℕ) (at x : ℕ) → A ⊎ UnionIn j word i others at x → A ⊎ UnionIn (j + 1) word i others at x
 wider j word i others at x = ⊎-elim inl (λ p. inr (p .0, p .1, p .2, omega (arith, p .3), p .4, p .5, p .6))
@@ -72,29 +45,8 @@ module _ (word i : ℕ) (others : List ℕ) (at : ℕ) (old : List ℕ) where
       abbrev to : ℕ
       to = union i j
 
-      abbrev before : ℕ
-      before = getD out to 0
-
       abbrev after : List ℕ
-      after = set out to (bitOr before r)
-
-      written : (x : ℕ) → x / 64 ≡ to → holds after 0 x ≡ has (bitOr before r) (x % 64)
-      written x e = at-front after x to e ∙ ap (λ (w : ℕ). has w (x % 64)) (getD-set-same out to (bitOr before r) 0 l)
-
-      others-kept : (x : ℕ) → (x / 64 ≡ to → ⊥) → holds after 0 x ≡ holds out 0 x
-      others-kept x apart =
-          at-front after x (x / 64) refl
-          ∙ ap (λ (w : ℕ). has w (x % 64)) (getD-set-other out to (x / 64) (bitOr before r) 0 apart)
-          ∙ sym (at-front out x (x / 64) refl)
-
-      more : (x : ℕ) → holds out 0 x ≡ true → holds after 0 x ≡ true
-      more x h =
-          ⊎-elim
-          (λ (t : eqb (x / 64) to ≡ true).
-          let here = eqb-true (x / 64) to t in
-          written x here ∙ left-union before r (x % 64) (sym (at-front out x to here) ∙ h))
-          (λ (t : eqb (x / 64) to ≡ false). others-kept x (eqb-false (x / 64) to t) ∙ h)
-          (test (eqb (x / 64) to))
+      after = set out to (bitOr (getD out to 0) r)
 
       new-from : (x : ℕ) → x / 64 ≡ to → has r (x % 64) ≡ true → UnionIn (j + 1) word i others at x
       new-from x here h =
@@ -104,21 +56,13 @@ module _ (word i : ℕ) (others : List ℕ) (at : ℕ) (old : List ℕ) where
             p .2,
             omega (arith, p .3),
             p .4,
-            at-word others at (j * 64 + p .1) j (word-is j (p .1) (p .3)) ∙ ap (has (getD others (at + j) 0)) (bit-is j (p .1) (p .3)) ∙ p .5,
+            of-word others at j (p .1) (p .3) ∙ p .5,
             whole x to here ∙ ap (λ (y : ℕ). to * 64 + y) (p .6) ∙ sym (union-parts i j (p .0) (p .1) (p .2) (p .3)),
           )
 
       row-from : (x : ℕ) → holds after 0 x ≡ true → (holds old 0 x ≡ true) ⊎ UnionIn (j + 1) word i others at x
       row-from x h =
-          ⊎-elim
-          (λ (t : eqb (x / 64) to ≡ true).
-          let here = eqb-true (x / 64) to t in
-          ⊎-elim (λ u. wider j word i others at x (row .from x (at-front out x to here ∙ u)))
-          (λ u. inr (new-from x here u))
-          (union-has before r (x % 64) (sym (written x here) ∙ h)))
-          (λ (t : eqb (x / 64) to ≡ false).
-          wider j word i others at x (row .from x (sym (others-kept x (eqb-false (x / 64) to t)) ∙ h)))
-          (test (eqb (x / 64) to))
+          ⊎-elim (λ u. wider j word i others at x (row .from x u)) (λ p. inr (new-from x (p .0) (p .1))) (joined-from out to l r x h)
 
       new-into : (s z : ℕ) → s < 64 → z / 64 ≡ j → has word s ≡ true → holds others at z ≡ true → holds after 0 (union (i * 64 + s) z) ≡ true
       new-into s z m here h k =
@@ -127,20 +71,18 @@ module _ (word i : ℕ) (others : List ℕ) (at : ℕ) (old : List ℕ) where
           let sum = union-below 6 s t m small in
           ap (λ (y : ℕ). holds after 0 (union (i * 64 + s) y)) (whole z j here)
           ∙ ap (holds after 0) (union-parts i j s t m small)
-          ∙ written (to * 64 + union s t) (word-is to (union s t) sum)
-          ∙ ap (has (bitOr before r)) (bit-is to (union s t) sum)
-          ∙ right-union before r (union s t) (unites .into s t m small h (sym (at-word others at z j here) ∙ k))
+          ∙ joined-into out to l r (union s t) sum (unites .into s t m small h (sym (at-word others at z j here) ∙ k))
 
       row-on : Row (j + 1) word i others at old after
       row-on =
           record {
             from = row-from;
-            kept = λ x h. more x (row .kept x h);
+            kept = λ x h. joined-kept out to l r x (row .kept x h);
             into =
                 λ x p.
                 ⊎-elim
                 (λ (t : ltb (p .1 / 64) j ≡ true).
-                more x (row .into x (p .0, p .1, p .2, ltb-true (p .1 / 64) j t, p .4, p .5, p .6)))
+                joined-kept out to l r x (row .into x (p .0, p .1, p .2, ltb-true (p .1 / 64) j t, p .4, p .5, p .6)))
                 (λ (t : ltb (p .1 / 64) j ≡ false).
                 ap (holds after 0) (p .6)
                 ∙ new-into (p .0) (p .1) (p .2) (omega (arith, ltb-false (p .1 / 64) j t, p .3)) (p .4) (p .5))
@@ -229,7 +171,7 @@ module _ (n : ℕ) (a others : List ℕ) (at : ℕ) (old out : List ℕ) (i : �
               p .1,
               omega (arith, p .2),
               p .3,
-              at-front a (i * 64 + p .0) i (word-is i (p .0) (p .2)) ∙ ap (has (getD a i 0)) (bit-is i (p .0) (p .2)) ∙ p .4,
+              of-front a i (p .0) (p .2) ∙ p .4,
               p .5,
               p .6,
             ))

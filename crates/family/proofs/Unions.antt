@@ -5,20 +5,21 @@ use native.Mathlib.Nat.{mod-lt, one-mul, div-lt-iff-lt-mul, pow-succ'}
 use mathlib.Core.Path.{_≡_, sym, ap, subst, _∙_}
 use mathlib.Core.Logic.{⊎-elim}
 use mathlib.Core.Bool.{true, false, _&&_, _||_}
-use lib.Bits.{or-comm, or-shifted, or-zero-l, or-zero-r}
+use lib.Bits.{bitAnd, or-comm, or-shifted, or-zero-l, or-zero-r}
 use lib.Pow.{pow-pos, pow-lt, pow-mono, split}
-use lib.Count.{leadingZeros, leading-top}
-use lib.Dec.{ltb}
-use borrow.Author.Tests.{ltb-true, ltb-false}
+use lib.Count.{leadingZeros, leading-top, trailingZeros}
+use lib.Dec.{eqb, ltb}
+use borrow.Author.Tests.{eqb-true, eqb-false, ltb-true, ltb-false}
 use Rattle.game.specs.Sets.{has, union}
-use Rattle.game.specs.SetLaws.{union-below, union-has, left-union, right-union, single-has, has-single, none-has}
+use Rattle.game.specs.SetLaws.{union-below, union-has, left-union, right-union, single-has, has-single, has-below, none-has}
+use Rattle.game.specs.LowestLaws.{lowest-of, cleared, cleared-falls}
 use Rattle.game.specs.UnionLaws.{union-assoc}
 use Rattle.game.specs.ListLaws.{test, clash, both, conj, either, left-or, right-or}
 use Rattle.family.specs.Family.{Unites, Lifts}
 use Rattle.family.proofs.Digits.{state-within, digit-set, digit-cleared, union-same, union-more}
 
 -- a digit that is set anew carries nothing
-no-carry : (s e : ℕ) → e < 6 → s < 64 → has s e ≡ false → s + 2 ^ e < 64
+pub no-carry : (s e : ℕ) → e < 6 → s < 64 → has s e ≡ false → s + 2 ^ e < 64
 no-carry s e l m off = subst (λ (x : ℕ). x < 64) (union-more s e off) (union-below 6 s (2 ^ e) m (pow-lt {j = 6} l))
 
 -- every set of a word with a state more is its union with the state
@@ -70,6 +71,38 @@ lifts-twice word x mid w after small one two =
           ap (has after) (sym (union-assoc y x w)) ∙ two .into (union y x) (union-below 6 y x l small) (one .into y l h);
     }
 
+-- A set of a word, and the word without it.
+pub record Taken (word j rest : ℕ) : Type 0 where
+  pub member : has word j ≡ true
+  pub part : (s : ℕ) → has rest s ≡ true → has word s ≡ true
+  pub alone : (s : ℕ) → has word s ≡ true → has rest s ≡ false → s ≡ j
+  pub less : rest < word
+
+-- its lowest set
+pub lowest-taken : (word : ℕ) → word < 2 ^ 64 → (word ≡ 0 → ⊥) → Taken word (trailingZeros 64 word) (bitAnd word (word - 1)) × (trailingZeros 64 word < 64)
+lowest-taken word small some =
+    let filled : 0 < word = omega (arith, some) in
+    let t = lowest-of 64 word filled small in
+    let c = cleared (trailingZeros 64 word) word filled (t .member) (t .below) in (
+      record {
+        member = t .member;
+        part =
+            λ s h.
+            ⊎-elim
+            (λ (e : eqb s (trailingZeros 64 word) ≡ true).
+            clash h (ap (has (bitAnd word (word - 1))) (eqb-true s (trailingZeros 64 word) e) ∙ c .gone))
+            (λ (e : eqb s (trailingZeros 64 word) ≡ false). sym (c .kept s (eqb-false s (trailingZeros 64 word) e)) ∙ h)
+            (test (eqb s (trailingZeros 64 word)));
+        alone =
+            λ s h off.
+            ⊎-elim (λ (e : eqb s (trailingZeros 64 word) ≡ true). eqb-true s (trailingZeros 64 word) e)
+            (λ (e : eqb s (trailingZeros 64 word) ≡ false). clash h (sym (c .kept s (eqb-false s (trailingZeros 64 word) e)) ∙ off))
+            (test (eqb s (trailingZeros 64 word)));
+        less = cleared-falls word filled;
+      },
+      t .small,
+    )
+
 -- The highest digit of a word, and the word without it.
 pub record Top (word j : ℕ) : Type 0 where
   pub low : 2 ^ j ≤ word
@@ -101,14 +134,17 @@ module _ (word j : ℕ) (t : Top word j) where
   top-has : has word j ≡ true
   top-has = ap (λ (x : ℕ). has x j) top-first ∙ left-union (2 ^ j) (word % 2 ^ j) j (single-has j)
 
-  rest-has : (s : ℕ) → has (word % 2 ^ j) s ≡ true → has word s ≡ true
-  rest-has s h = ap (λ (x : ℕ). has x s) top-first ∙ right-union (2 ^ j) (word % 2 ^ j) s h
-
-  -- a digit of the word that the rest has not is its highest
-  top-alone : (s : ℕ) → has word s ≡ true → has (word % 2 ^ j) s ≡ false → s ≡ j
-  top-alone s h off =
-      ⊎-elim (has-single j s) (λ u. clash u off)
-      (union-has (2 ^ j) (word % 2 ^ j) s (sym (ap (λ (x : ℕ). has x s) top-first) ∙ h))
+  pub top-taken : Taken word j (word % 2 ^ j)
+  top-taken =
+      record {
+        member = top-has;
+        part = λ s h. ap (λ (x : ℕ). has x s) top-first ∙ right-union (2 ^ j) (word % 2 ^ j) s h;
+        alone =
+            λ s h off.
+            ⊎-elim (has-single j s) (λ u. clash u off)
+            (union-has (2 ^ j) (word % 2 ^ j) s (sym (ap (λ (x : ℕ). has x s) top-first) ∙ h));
+        less = top-less;
+      }
 
   pub top-below : (n : ℕ) → word < 2 ^ n → j < n
   top-below n small =
@@ -161,26 +197,25 @@ wording-starts a b small =
       into = λ y z l m h k off. clash k off;
     }
 
-pub wording-more : (a b out rest : ℕ) → Wording a b out rest → (j : ℕ) → Top rest j → (r : ℕ) → Lifts a j r
-    → Wording a b (union out r) (rest % 2 ^ j)
-wording-more a b out rest w j t r lifted =
-    let here = w .part j (top-has rest j t) in
+pub wording-more : (a b out rest : ℕ) → Wording a b out rest → (j next : ℕ) → Taken rest j next → (r : ℕ) → Lifts a j r
+    → Wording a b (union out r) next
+wording-more a b out rest w j next t r lifted =
+    let here = w .part j (t .member) in
     record {
-      small = omega (arith, w .small, top-less rest j t);
-      part = λ s h. w .part s (rest-has rest j t s h);
+      small = omega (arith, w .small, t .less);
+      part = λ s h. w .part s (t .part s h);
       from =
           λ s l h.
           ⊎-elim (w .from s l)
           (λ u.
           let p = lifted .from s l u in
-          (p .0, j, p .1, top-below rest j t 64 (w .small), p .2, here, p .3))
+          (p .0, j, p .1, has-below 64 rest j (w .small) (t .member), p .2, here, p .3))
           (union-has out r s h);
       into =
           λ y z l m h k off.
           ⊎-elim
           (λ (on : has rest z ≡ true).
-          right-union out r (union y z)
-          (ap (λ (x : ℕ). has r (union y x)) (top-alone rest j t z on off) ∙ lifted .into y l h))
+          right-union out r (union y z) (ap (λ (x : ℕ). has r (union y x)) (t .alone z on off) ∙ lifted .into y l h))
           (λ (gone : has rest z ≡ false). left-union out r (union y z) (w .into y z l m h k gone))
           (test (has rest z));
     }

@@ -39,6 +39,19 @@ pub record Row (n word i : ℕ) (others : List ℕ) (at : ℕ) (old out : List �
   pub kept : (x : ℕ) → holds old 0 x ≡ true → holds out 0 x ≡ true
   pub into : (x : ℕ) → UnionIn n word i others at x → holds out 0 x ≡ true
 
+-- The unions of a set of one family of n words with a set of another put into the family at the front of an area.
+pub record UnitesInto (n : ℕ) (a : List ℕ) (at : ℕ) (b : List ℕ) (bt : ℕ) (old out : List ℕ) : Type 0 where
+  pub from : (x : ℕ) → holds out 0 x ≡ true
+      → (holds old 0 x ≡ true) ⊎ ((y z : ℕ) × (y / 64 < n) × (z / 64 < n) × (holds a at y ≡ true) × (holds b bt z ≡ true) × (x ≡ union y z))
+  pub kept : (x : ℕ) → holds old 0 x ≡ true → holds out 0 x ≡ true
+  pub into : (y z : ℕ) → y / 64 < n → z / 64 < n → holds a at y ≡ true → holds b bt z ≡ true → holds out 0 (union y z) ≡ true
+
+-- word j of a family of n words joined to word i | j of another, at the front of an area
+pub record Gathered (n i : ℕ) (a : List ℕ) (at : ℕ) (old words : List ℕ) : Type 0 where
+  pub from : (x : ℕ) → holds words 0 x ≡ true
+      → (holds old 0 x ≡ true) ⊎ ((j : ℕ) × (j < n) × (x / 64 ≡ union i j) × (has (getD a (at + j) 0) (x % 64) ≡ true))
+  pub into : (j s : ℕ) → j < n → s < 64 → has (getD a (at + j) 0) s ≡ true → holds words 0 (union i j * 64 + s) ≡ true
+
 -- the words from `at` on, n of them, aside, an area is as it was
 abbrev pub Elsewhere : ℕ → ℕ → List ℕ → List ℕ → Type 0
 Elsewhere at n old words = (place x : ℕ) → (place + x / 64 < at) ⊎ (at + n ≤ place + x / 64) → holds words place x ≡ holds old place x
@@ -64,3 +77,10 @@ pub record Joined (old : List ℕ) (to n : ℕ) (others : List ℕ) (at : ℕ) (
 pub record Without (old : List ℕ) (to n : ℕ) (others : List ℕ) (at : ℕ) (words : List ℕ) : Type 0 where
   pub here : (x : ℕ) → x / 64 < n → holds words to x ≡ (holds old to x && not (holds others at x))
   pub elsewhere : Elsewhere to n old words
+
+-- the family of n words at the front of d put into the one at a place of `all`, and what was not there put at the same place of `new`
+pub record TakenIn (n : ℕ) (d : List ℕ) (to : ℕ) (before all old new : List ℕ) : Type 0 where
+  pub here : (x : ℕ) → x / 64 < n → holds all to x ≡ (holds before to x || holds d 0 x)
+  pub fresh : (x : ℕ) → x / 64 < n → holds new to x ≡ (holds d 0 x && not (holds before to x))
+  pub elsewhere : Elsewhere to n before all
+  pub apart : Elsewhere to n old new

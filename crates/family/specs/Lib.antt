@@ -1,1 +1,3 @@
 pub mod Family
+pub mod Masks
+pub mod DigitLaws

@@ -1,8 +1,9 @@
 // Families at places of an area.
 ghost use mathlib.Core.Path.{_≡_};
-ghost use Prim.Native.Nat.{_+_, _/_, _<_, _≤_};
+ghost use mathlib.Core.Bool.{true, false};
+ghost use Prim.Native.Nat.{ℕ, _+_, _/_, _<_, _≤_};
 ghost use lib.ListN.{length};
-ghost use Rattle.family.specs.Family.{holds, Put, Cleared, Copied, Joined, Without};
+ghost use Rattle.family.specs.Family.{holds, Put, Cleared, Copied, Joined, Without, TakenIn};
 
 // Set x is in the family at a place.
 pub fn has_at(words: &[u64], at: usize, x: usize) -> bool
@@ -10,6 +11,21 @@ pub fn has_at(words: &[u64], at: usize, x: usize) -> bool
     ensures { λ r. ⌜ r ≡ holds (now (words .entry)) at x ⌝ }
 {
     (words[at + x / 64] >> (x % 64)) % 2 == 1
+}
+
+// No set is in the family at a place.
+pub fn is_empty_at(words: &[u64], at: usize, n: usize) -> bool
+    requires { ⌜ at + n ≤ length (now words) ⌝ }
+    ensures { λ r. ⌜ (r ≡ true → (x : ℕ) → x / 64 < n → holds (now (words .entry)) at x ≡ false) ⌝ }
+{
+    let mut i = 0;
+    while i < n {
+        if words[at + i] != 0 {
+            return false;
+        }
+        i += 1;
+    }
+    true
 }
 
 // Set x put into the family at a place.
@@ -71,5 +87,22 @@ pub fn remove_at(words: &mut [u64], to: usize, others: &[u64], at: usize, n: usi
     while i < n {
         words[to + i] = words[to + i] ^ (words[to + i] & others[at + i]);
         i += 1;
+    }
+}
+
+// The sets of the family at the front of `d` put into the family at a place of `all`, and those that were not there, alone, at the
+// same place of `new`.
+pub fn take_in(all: &mut [u64], new: &mut [u64], to: usize, d: &[u64], n: usize)
+    requires { ⌜ (to + n ≤ length (now all)) × (to + n ≤ length (now new)) × (n ≤ length (now d)) ⌝ }
+    ensures { λ _. ⌜ TakenIn n (now (d .entry)) to (now (all .entry)) (now (all .exit)) (now (new .entry)) (now (new .exit)) ⌝ }
+    ensures { λ _. ⌜ length (now (all .exit)) ≡ length (now (all .entry)) ⌝ }
+    ensures { λ _. ⌜ length (now (new .exit)) ≡ length (now (new .entry)) ⌝ }
+{
+    let mut t = 0;
+    while t < n {
+        let v = d[t] ^ (d[t] & all[to + t]);
+        new[to + t] = v;
+        all[to + t] = all[to + t] | v;
+        t += 1;
     }
 }

@@ -3,12 +3,21 @@
 // It leaves out where families come from and what they are for, which is the solver's.
 mod area;
 mod product;
+mod raising;
+mod uniting;
 mod words;
 
 pub use area::clear_at;
 pub use area::copy_at;
 pub use area::has_at;
+pub use area::is_empty_at;
 pub use area::join_at;
 pub use area::put_at;
 pub use area::remove_at;
+pub use area::take_in;
 pub use product::unite_at;
+pub use raising::RAISING;
+pub use raising::fill_raising;
+pub use raising::subsets_at;
+pub use uniting::unite_by;
+pub use uniting::unite_into;

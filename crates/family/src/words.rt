@@ -53,7 +53,7 @@ fn with_state(word: u64, e: u8) -> u64
 }
 
 // The sets below 64 with a state below 6.
-fn mask_of(e: u8) -> u64
+pub fn mask_of(e: u8) -> u64
     requires { ⌜ e < 6 ⌝ }
     ensures { λ r. ⌜ ((s : ℕ) → s < 64 → has r s ≡ has s e) ⌝ }
 {

@@ -4,7 +4,8 @@ use Prim.Native.Nat.{_-_}
 use native.Mathlib.Omega.{arith}
 use mathlib.Core.Logic.{⊎-elim}
 use borrow.Author.Needs.{needs}
-use Rattle.family.proofs.Rows.{Rowing, rowing-starts, rowing-more, rowing-skips, rowing-ends, union-place}
+use Rattle.family.proofs.Places.{union-place}
+use Rattle.family.proofs.Rows.{Rowing, rowing-starts, rowing-more, rowing-skips, rowing-ends}
 use Rattle.family.proofs.product.unite_row.Statement.{statement}
 use Rattle.family.proofs.product.unite_row.Tie as tie
 

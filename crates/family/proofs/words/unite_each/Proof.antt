@@ -5,7 +5,7 @@ use native.Mathlib.Omega.{arith}
 use lib.Pow.{pow-pos}
 use lib.Count.{leadingZeros}
 use Rattle.family.proofs.Digits.{digit-shift}
-use Rattle.family.proofs.Unions.{Wording, wording-starts, wording-more, wording-ends, top-of, top-less}
+use Rattle.family.proofs.Unions.{Wording, wording-starts, wording-more, wording-ends, top-of, top-less, top-taken}
 use Rattle.family.proofs.words.unite_each.Statement.{statement}
 use Rattle.family.proofs.words.unite_each.Tie as tie
 
@@ -40,7 +40,7 @@ loop-less : tie.Need-loop-less Inv-loop μ-loop
 loop-less c = rw (digit-shift (63 - leadingZeros 64 (c .before .before .loop .rest)) (omega arith)) (top-less _ _ (top-of _ (c .before .before .loop .inv .small) (c .before .loop-test .taken) .0))
 
 loop-again : tie.Need-loop-again Inv-loop μ-loop
-loop-again c = rw (digit-shift (63 - leadingZeros 64 (c .before .before .loop .rest)) (omega arith)) (wording-more _ _ _ _ (c .before .before .loop .inv) _ (top-of _ (c .before .before .loop .inv .small) (c .before .loop-test .taken) .0) _ (c .with-set .ensures))
+loop-again c = rw (digit-shift (63 - leadingZeros 64 (c .before .before .loop .rest)) (omega arith)) (wording-more _ _ _ _ (c .before .before .loop .inv) _ _ (top-taken _ _ (top-of _ (c .before .before .loop .inv .small) (c .before .loop-test .taken) .0)) _ (c .with-set .ensures))
 
 returns : tie.Need-returns Inv-loop μ-loop
 returns c = wording-ends _ _ _ _ (c .before .loop .inv) (c .loop-test .left)
