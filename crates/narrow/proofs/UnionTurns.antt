@@ -18,7 +18,7 @@ use Rattle.game.specs.SetLaws.{has-below, has-from, has-above, none-has, member
 use Rattle.game.specs.UnionLaws.{union-assoc, union-none, none-union}
 use Rattle.game.specs.ListLaws.{_∈_, test, clash, both, either, left-or, right-or, below-suc, map-in, in-map, flatMap-in, in-flatMap}
 use Rattle.table.specs.Table.{Entry}
-use Rattle.family.specs.Family.{holds, Put, Product, Copied, Joined}
+use Rattle.family.specs.Family.{holds, Put, Product, UnitesInto, Copied, Joined}
 use Rattle.rounds.specs.Rounds.{members, setsOf, unions, ends}
 use Rattle.rounds.specs.MemberLaws.{has-mod, members-none}
 use Rattle.rounds.specs.Scans.{Highest}
@@ -142,9 +142,9 @@ module _ (g : PushdownGame) (es : List Entry) (c : ℕ) where
         parts-within x u v e l = (omega (arith, e, or-add-and u v, and-le-r u v), omega (arith, e, or-comm u v, or-add-and v u, and-le-r v u))
 
     pub took : (z s y at : ℕ) → Added g z s y → (part next : List ℕ) → at ≡ headAt s c → Is part 0 n (unionsOf g es c z)
-        → ((k : ℕ) → n ≡ 2 ^ k → Product n part all at next) → Is next 0 n (unionsOf g es c y)
+        → Product n part all at next → Is next 0 n (unionsOf g es c y)
     took z s y at a part next e is p =
-        taken z s y a part next is (subst (λ (i : ℕ). Product n part all i next) e (p (nw .width .power .0) (nw .width .power .1)))
+        taken z s y a part next is (subst (λ (i : ℕ). Product n part all i next) e p)
 
 -- a family copied to the front, or to a place
 pub moved : (n : ℕ) (sets : List ℕ) (others : List ℕ) (at : ℕ) (old : List ℕ) (to : ℕ) (words : List ℕ) → Is others at n sets → Copied old to n others at words
@@ -287,6 +287,11 @@ no-sets n at x = ap (λ (w : ℕ). has w (x % 64)) (zeros n (at + x / 64)) ∙ n
     zeros zero i = refl
     zeros (suc n) zero = refl
     zeros (suc n) (suc i) = zeros n i
+
+-- unions put into an empty family
+pub united : (n : ℕ) (a others : List ℕ) (at : ℕ) (old out : List ℕ) → NoSets old → UnitesInto n a 0 others at old out → Product n a others at out
+united n a others at old out none u =
+    record { from = λ x l h. ⊎-elim (λ k. clash k (none 0 x)) (λ q. q) (u .from x h); into = u .into }
 
 -- a family of unions put into another
 pub line-added : (g : PushdownGame) (es : List Entry) (n to x c : ℕ) (old others : List ℕ) (at : ℕ) (words : List ℕ) → n ≤ 16 → Is others at n (unionsOf g es c x)

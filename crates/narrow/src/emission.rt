@@ -14,6 +14,7 @@ ghost use Rattle.game.specs.Game.{PushdownGame};
 ghost use Rattle.game.specs.GoodGame.{Good};
 ghost use Rattle.game.specs.Held.{Held};
 ghost use Rattle.table.specs.Table.{Entry, key, firstWord};
+ghost use Rattle.family.specs.Masks.{Raising};
 ghost use Rattle.rounds.specs.Rounds.{candidates};
 ghost use Rattle.rounds.specs.RoundLaws.{AllRanged};
 ghost use Rattle.rounds.specs.Growing.{growing, partly};
@@ -40,10 +41,11 @@ pub fn write_round(
     ends: &[u64],
     firsts: &[usize],
     nexts: &[usize],
+    raising: &[u64],
 ) -> usize
     requires { ⌜ Roomy (now all) (now ends) (now firsts) (now nexts) × Climbs (now nexts) (sizes .rulecount) × (sizes .rulecount ≤ 256) × (n ≤ 16)
-        × (sizes .control ≤ 10) × (0 < sizes .letters) × (sizes .letters ≤ 64) × (old * 3 ≤ length (now work)) × (birthdate < 65536) ⌝ }
-    ensures { λ r. ⌜ ((g : PushdownGame) (es : List Entry) (m : ℕ) (rules : List ℕ) → Held g sizes rules → Good g → AllRanged g es
+        × (sizes .control ≤ 10) × (0 < sizes .letters) × (sizes .letters ≤ 64) × (old * 3 ≤ length (now work)) × (birthdate < 65536) × (512 ≤ length (now raising)) ⌝ }
+    ensures { λ r. ⌜ (Raising (now (raising .entry)) → (g : PushdownGame) (es : List Entry) (m : ℕ) (rules : List ℕ) → Held g sizes rules → Good g → AllRanged g es
         → Stored m (now (work .entry)) old es → Stored m (now (table .entry)) old es
         → Width (g .states) n → HeadFamilies g es n (now (all .entry)) → RuleFamilies g es n (now (ends .entry)) (sizes .rulecount)
         → Linked rules (sizes .rulecount) (now (firsts .entry)) (now (nexts .entry))
@@ -68,6 +70,7 @@ pub fn write_round(
             ends,
             firsts,
             nexts,
+            raising,
             p,
             a,
             cursor,
@@ -90,13 +93,14 @@ fn write_head(
     ends: &[u64],
     firsts: &[usize],
     nexts: &[usize],
+    raising: &[u64],
     p: u8,
     a: u8,
     cursor: Cursor,
 ) -> Cursor
     requires { ⌜ Roomy (now all) (now ends) (now firsts) (now nexts) × Climbs (now nexts) (sizes .rulecount) × (sizes .rulecount ≤ 256) × (n ≤ 16)
-        × (p < 10) × (a < 64) × (old * 3 ≤ length (now work)) × (birthdate < 65536) ⌝ }
-    ensures { λ r. ⌜ ((g : PushdownGame) (es : List Entry) (m : ℕ) (rules : List ℕ)
+        × (p < 10) × (a < 64) × (old * 3 ≤ length (now work)) × (birthdate < 65536) × (512 ≤ length (now raising)) ⌝ }
+    ensures { λ r. ⌜ (Raising (now (raising .entry)) → (g : PushdownGame) (es : List Entry) (m : ℕ) (rules : List ℕ)
         → Setting g es m n rules sizes (now (work .entry)) old (now (ends .entry)) (now (firsts .entry)) (now (nexts .entry))
         → HeadFamilies g es n (now (all .entry)) → p < g .control → a < g .letters
         → Reached g es birthdate m (key p a 0) (now (table .entry)) (cursor .count) (cursor .taken)
@@ -104,7 +108,18 @@ fn write_head(
     ensures { λ _. ⌜ length (now (table .exit)) ≡ length (now (table .entry)) ⌝ }
 {
     let mut fresh = [0u64; 16];
-    new_sets(sizes, n, p, a, all, ends, firsts, nexts, &mut fresh);
+    new_sets(
+        sizes,
+        n,
+        p,
+        a,
+        all,
+        ends,
+        firsts,
+        nexts,
+        raising,
+        &mut fresh,
+    );
     write_words(
         sizes,
         n,

@@ -6,7 +6,7 @@ use family::clear_at;
 use family::copy_at;
 use family::join_at;
 use family::put_at;
-use family::unite_at;
+use family::unite_into;
 use game::Game;
 use rounds::highest;
 ghost use mathlib.Core.Path.{_≡_};
@@ -18,6 +18,7 @@ ghost use Rattle.game.specs.Game.{PushdownGame};
 ghost use Rattle.game.specs.declared.game.Sizes.{Sizes};
 ghost use Rattle.game.specs.Held.{Held};
 ghost use Rattle.game.specs.Sets.{has};
+ghost use Rattle.family.specs.Masks.{Raising};
 ghost use Rattle.table.specs.Table.{Entry};
 ghost use Rattle.rounds.specs.RoundLaws.{AllRanged};
 ghost use Rattle.narrow.specs.Families.{Is, RuleFamilies, NoSets, lineOf, keyFor, Cached, unionsOf};
@@ -57,10 +58,11 @@ fn take_state(
     all: &[u64],
     keys: &mut [usize],
     lines: &mut [u64],
+    raising: &[u64],
     n: usize,
 )
-    requires { ⌜ (length (now part) ≡ 16) × (y < 1024) × (s < 10) × (c < 64) × (10240 ≤ length (now all)) × (length (now keys) ≡ 2048) × (length (now lines) ≡ 32768) × (n ≤ 16) ⌝ }
-    ensures { λ _. ⌜ ((g : PushdownGame) (es : List Entry) (z : ℕ) → Narrow g es n c (now (all .entry)) → Added g z s y → Is (now (part .entry)) 0 n (unionsOf g es c z)
+    requires { ⌜ (length (now part) ≡ 16) × (y < 1024) × (s < 10) × (c < 64) × (10240 ≤ length (now all)) × (length (now keys) ≡ 2048) × (length (now lines) ≡ 32768) × (n ≤ 16) × (512 ≤ length (now raising)) ⌝ }
+    ensures { λ _. ⌜ (Raising (now (raising .entry)) → (g : PushdownGame) (es : List Entry) (z : ℕ) → Narrow g es n c (now (all .entry)) → Added g z s y → Is (now (part .entry)) 0 n (unionsOf g es c z)
         → Cached g es n (now (keys .entry)) (now (lines .entry))
         → Is (now (part .exit)) 0 n (unionsOf g es c y) × Cached g es n (now (keys .exit)) (now (lines .exit))) ⌝ }
     ensures { λ _. ⌜ length (now (part .exit)) ≡ length (now (part .entry)) ⌝ }
@@ -74,7 +76,7 @@ fn take_state(
         return;
     }
     let mut next = [0u64; 16];
-    unite_at(&mut next, part, all, head_at(s as u8, c), n);
+    unite_into(&mut next, part, 0, all, head_at(s as u8, c), raising, n);
     copy_at(part, 0, &next, 0, n);
     copy_at(lines, line * 16, &next, 0, n);
     keys[line] = key;
@@ -88,10 +90,11 @@ fn form_unions(
     all: &[u64],
     keys: &mut [usize],
     lines: &mut [u64],
+    raising: &[u64],
     n: usize,
 )
-    requires { ⌜ (length (now part) ≡ 16) × (x < 1024) × (c < 64) × (10240 ≤ length (now all)) × (length (now keys) ≡ 2048) × (length (now lines) ≡ 32768) × (n ≤ 16) ⌝ }
-    ensures { λ _. ⌜ ((g : PushdownGame) (es : List Entry) → Narrow g es n c (now (all .entry)) → x < 2 ^ g .states → NoSets (now (part .entry))
+    requires { ⌜ (length (now part) ≡ 16) × (x < 1024) × (c < 64) × (10240 ≤ length (now all)) × (length (now keys) ≡ 2048) × (length (now lines) ≡ 32768) × (n ≤ 16) × (512 ≤ length (now raising)) ⌝ }
+    ensures { λ _. ⌜ (Raising (now (raising .entry)) → (g : PushdownGame) (es : List Entry) → Narrow g es n c (now (all .entry)) → x < 2 ^ g .states → NoSets (now (part .entry))
         → Cached g es n (now (keys .entry)) (now (lines .entry))
         → Is (now (part .exit)) 0 n (unionsOf g es c x) × Cached g es n (now (keys .exit)) (now (lines .exit))) ⌝ }
     ensures { λ _. ⌜ length (now (part .exit)) ≡ length (now (part .entry)) ⌝ }
@@ -103,7 +106,7 @@ fn form_unions(
     while rest != 0 {
         let s = top_of(rest);
         rest = rest % (1usize << s);
-        take_state(part, x - rest, s, c, all, keys, lines, n);
+        take_state(part, x - rest, s, c, all, keys, lines, raising, n);
     }
 }
 
@@ -116,10 +119,11 @@ fn add_unions(
     all: &[u64],
     keys: &mut [usize],
     lines: &mut [u64],
+    raising: &[u64],
     n: usize,
 )
-    requires { ⌜ (to + 16 ≤ length (now out)) × (x < 1024) × (c < 64) × (10240 ≤ length (now all)) × (length (now keys) ≡ 2048) × (length (now lines) ≡ 32768) × (n ≤ 16) ⌝ }
-    ensures { λ _. ⌜ ((g : PushdownGame) (es : List Entry) → Narrow g es n c (now (all .entry)) → x < 2 ^ g .states
+    requires { ⌜ (to + 16 ≤ length (now out)) × (x < 1024) × (c < 64) × (10240 ≤ length (now all)) × (length (now keys) ≡ 2048) × (length (now lines) ≡ 32768) × (n ≤ 16) × (512 ≤ length (now raising)) ⌝ }
+    ensures { λ _. ⌜ (Raising (now (raising .entry)) → (g : PushdownGame) (es : List Entry) → Narrow g es n c (now (all .entry)) → x < 2 ^ g .states
         → Cached g es n (now (keys .entry)) (now (lines .entry))
         → Adds n to (now (out .entry)) (InUnions g es c x) (now (out .exit)) × Cached g es n (now (keys .exit)) (now (lines .exit))) ⌝ }
     ensures { λ _. ⌜ length (now (out .exit)) ≡ length (now (out .entry)) ⌝ }
@@ -132,7 +136,7 @@ fn add_unions(
         return;
     }
     let mut part = [0u64; 16];
-    form_unions(&mut part, x, c, all, keys, lines, n);
+    form_unions(&mut part, x, c, all, keys, lines, raising, n);
     join_at(out, to, &part, 0, n);
 }
 
@@ -146,10 +150,11 @@ fn add_word(
     all: &[u64],
     keys: &mut [usize],
     lines: &mut [u64],
+    raising: &[u64],
     n: usize,
 )
-    requires { ⌜ (to + 16 ≤ length (now out)) × (from + 64 ≤ 1024) × (c < 64) × (10240 ≤ length (now all)) × (length (now keys) ≡ 2048) × (length (now lines) ≡ 32768) × (n ≤ 16) ⌝ }
-    ensures { λ _. ⌜ ((g : PushdownGame) (es : List Entry) → Narrow g es n c (now (all .entry)) → ((s : ℕ) → s < 64 → has word s ≡ true → from + s < 2 ^ g .states)
+    requires { ⌜ (to + 16 ≤ length (now out)) × (from + 64 ≤ 1024) × (c < 64) × (10240 ≤ length (now all)) × (length (now keys) ≡ 2048) × (length (now lines) ≡ 32768) × (n ≤ 16) × (512 ≤ length (now raising)) ⌝ }
+    ensures { λ _. ⌜ (Raising (now (raising .entry)) → (g : PushdownGame) (es : List Entry) → Narrow g es n c (now (all .entry)) → ((s : ℕ) → s < 64 → has word s ≡ true → from + s < 2 ^ g .states)
         → Cached g es n (now (keys .entry)) (now (lines .entry))
         → Adds n to (now (out .entry)) (OfWord g es c word from) (now (out .exit)) × Cached g es n (now (keys .exit)) (now (lines .exit))) ⌝ }
     ensures { λ _. ⌜ length (now (out .exit)) ≡ length (now (out .entry)) ⌝ }
@@ -159,7 +164,7 @@ fn add_word(
     let mut rest = word;
     while rest != 0 {
         let s = lowest_set(rest);
-        add_unions(out, to, from + s, c, all, keys, lines, n);
+        add_unions(out, to, from + s, c, all, keys, lines, raising, n);
         rest = rest & (rest - 1);
     }
 }
@@ -182,10 +187,11 @@ fn add_runs(
     all: &[u64],
     keys: &mut [usize],
     lines: &mut [u64],
+    raising: &[u64],
     n: usize,
 )
-    requires { ⌜ (to + 16 ≤ length (now out)) × (q < 10) × (b < 64) × (c < 64) × (10240 ≤ length (now all)) × (length (now keys) ≡ 2048) × (length (now lines) ≡ 32768) × (n ≤ 16) ⌝ }
-    ensures { λ _. ⌜ ((g : PushdownGame) (es : List Entry) → AllRanged g es → Narrow g es n c (now (all .entry)) → q < g .states → b < g .letters
+    requires { ⌜ (to + 16 ≤ length (now out)) × (q < 10) × (b < 64) × (c < 64) × (10240 ≤ length (now all)) × (length (now keys) ≡ 2048) × (length (now lines) ≡ 32768) × (n ≤ 16) × (512 ≤ length (now raising)) ⌝ }
+    ensures { λ _. ⌜ (Raising (now (raising .entry)) → (g : PushdownGame) (es : List Entry) → AllRanged g es → Narrow g es n c (now (all .entry)) → q < g .states → b < g .letters
         → Cached g es n (now (keys .entry)) (now (lines .entry))
         → Adds n to (now (out .entry)) (OfHead g es q b c) (now (out .exit)) × Cached g es n (now (keys .exit)) (now (lines .exit))) ⌝ }
     ensures { λ _. ⌜ length (now (out .exit)) ≡ length (now (out .entry)) ⌝ }
@@ -195,7 +201,18 @@ fn add_runs(
     let at = head_at(q, b);
     let mut j = 0;
     while j < n {
-        add_word(out, to, all[at + j], j * 64, c, all, keys, lines, n);
+        add_word(
+            out,
+            to,
+            all[at + j],
+            j * 64,
+            c,
+            all,
+            keys,
+            lines,
+            raising,
+            n,
+        );
         j += 1;
     }
 }
@@ -208,10 +225,11 @@ fn set_ends(
     out: &mut [u64],
     keys: &mut [usize],
     lines: &mut [u64],
+    raising: &[u64],
     n: usize,
 )
-    requires { ⌜ ((r + 1) * 6 ≤ length (now rules)) × (r < 256) × (10240 ≤ length (now all)) × (4096 ≤ length (now out)) × (length (now keys) ≡ 2048) × (length (now lines) ≡ 32768) × (n ≤ 16) ⌝ }
-    ensures { λ _. ⌜ ((g : PushdownGame) (es : List Entry) (sizes : Sizes) → Held g sizes (now (rules .entry)) → AllRanged g es → r < length (g .rules) → NarrowRound g es n (now (all .entry))
+    requires { ⌜ ((r + 1) * 6 ≤ length (now rules)) × (r < 256) × (10240 ≤ length (now all)) × (4096 ≤ length (now out)) × (length (now keys) ≡ 2048) × (length (now lines) ≡ 32768) × (n ≤ 16) × (512 ≤ length (now raising)) ⌝ }
+    ensures { λ _. ⌜ (Raising (now (raising .entry)) → (g : PushdownGame) (es : List Entry) (sizes : Sizes) → Held g sizes (now (rules .entry)) → AllRanged g es → r < length (g .rules) → NarrowRound g es n (now (all .entry))
         → RuleFamilies g es n (now (out .entry)) r → Cached g es n (now (keys .entry)) (now (lines .entry))
         → RuleFamilies g es n (now (out .exit)) (r + 1) × Cached g es n (now (keys .exit)) (now (lines .exit))) ⌝ }
     ensures { λ _. ⌜ length (now (out .exit)) ≡ length (now (out .entry)) ⌝ }
@@ -232,7 +250,19 @@ fn set_ends(
         return;
     }
     clear_at(out, r * 16, n);
-    add_ends(rules[at + 3], q, b, c, r * 16, all, out, keys, lines, n);
+    add_ends(
+        rules[at + 3],
+        q,
+        b,
+        c,
+        r * 16,
+        all,
+        out,
+        keys,
+        lines,
+        raising,
+        n,
+    );
 }
 
 // The ends of the runs over what a rule writes, from the state that it goes to, put into the family at a place.
@@ -246,10 +276,11 @@ fn add_ends(
     out: &mut [u64],
     keys: &mut [usize],
     lines: &mut [u64],
+    raising: &[u64],
     n: usize,
 )
-    requires { ⌜ (q < 10) × (b < 64) × (c < 64) × (to + 16 ≤ length (now out)) × (10240 ≤ length (now all)) × (length (now keys) ≡ 2048) × (length (now lines) ≡ 32768) × (n ≤ 16) ⌝ }
-    ensures { λ _. ⌜ ((g : PushdownGame) (es : List Entry) → AllRanged g es → Narrow g es n c (now (all .entry)) → q < g .states → b < g .letters
+    requires { ⌜ (q < 10) × (b < 64) × (c < 64) × (to + 16 ≤ length (now out)) × (10240 ≤ length (now all)) × (length (now keys) ≡ 2048) × (length (now lines) ≡ 32768) × (n ≤ 16) × (512 ≤ length (now raising)) ⌝ }
+    ensures { λ _. ⌜ (Raising (now (raising .entry)) → (g : PushdownGame) (es : List Entry) → AllRanged g es → Narrow g es n c (now (all .entry)) → q < g .states → b < g .letters
         → Cached g es n (now (keys .entry)) (now (lines .entry))
         → Adds n to (now (out .entry)) (OfWriting g es written q b c) (now (out .exit)) × Cached g es n (now (keys .exit)) (now (lines .exit))) ⌝ }
     ensures { λ _. ⌜ length (now (out .exit)) ≡ length (now (out .entry)) ⌝ }
@@ -264,7 +295,7 @@ fn add_ends(
         join_at(out, to, all, head_at(q, b), n);
         return;
     }
-    add_runs(out, to, q, b, c, all, keys, lines, n);
+    add_runs(out, to, q, b, c, all, keys, lines, raising, n);
 }
 
 // The ends of the runs of every rule. No line holds anything at first.
@@ -275,10 +306,11 @@ pub fn all_ends(
     out: &mut [u64],
     keys: &mut [usize],
     lines: &mut [u64],
+    raising: &[u64],
     n: usize,
 )
-    requires { ⌜ (count * 6 ≤ length (now rules)) × (count ≤ 256) × (10240 ≤ length (now all)) × (4096 ≤ length (now out)) × (length (now keys) ≡ 2048) × (length (now lines) ≡ 32768) × (n ≤ 16) ⌝ }
-    ensures { λ _. ⌜ ((g : PushdownGame) (es : List Entry) (sizes : Sizes) → Held g sizes (now (rules .entry)) → AllRanged g es → count ≡ length (g .rules) → NarrowRound g es n (now (all .entry))
+    requires { ⌜ (count * 6 ≤ length (now rules)) × (count ≤ 256) × (10240 ≤ length (now all)) × (4096 ≤ length (now out)) × (length (now keys) ≡ 2048) × (length (now lines) ≡ 32768) × (n ≤ 16) × (512 ≤ length (now raising)) ⌝ }
+    ensures { λ _. ⌜ (Raising (now (raising .entry)) → (g : PushdownGame) (es : List Entry) (sizes : Sizes) → Held g sizes (now (rules .entry)) → AllRanged g es → count ≡ length (g .rules) → NarrowRound g es n (now (all .entry))
         → RuleFamilies g es n (now (out .exit)) count) ⌝ }
     ensures { λ _. ⌜ length (now (out .exit)) ≡ length (now (out .entry)) ⌝ }
     ensures { λ _. ⌜ length (now (keys .exit)) ≡ length (now (keys .entry)) ⌝ }
@@ -287,7 +319,7 @@ pub fn all_ends(
     fill(keys, 0);
     let mut r = 0;
     while r < count {
-        set_ends(rules, r, all, out, keys, lines, n);
+        set_ends(rules, r, all, out, keys, lines, raising, n);
         r += 1;
     }
 }

@@ -3,7 +3,7 @@ use family::copy_at;
 use family::join_at;
 use family::put_at;
 use family::remove_at;
-use family::unite_at;
+use family::unite_into;
 use game::Sizes;
 use game::has_state;
 ghost use mathlib.Core.Path.{_≡_};
@@ -14,6 +14,7 @@ ghost use Rattle.game.specs.Game.{PushdownGame};
 ghost use Rattle.game.specs.GoodGame.{Good};
 ghost use Rattle.game.specs.Held.{Held};
 ghost use Rattle.table.specs.Table.{Entry};
+ghost use Rattle.family.specs.Masks.{Raising};
 ghost use Rattle.rounds.specs.RoundLaws.{AllRanged};
 ghost use Rattle.narrow.specs.Families.{Width, HeadFamilies, RuleFamilies, Linked, Climbs, Roomy, HeadGives, Fresh, NoSets};
 ghost use Rattle.narrow.specs.Linking.{Chain};
@@ -36,16 +37,17 @@ pub fn new_sets(
     ends: &[u64],
     firsts: &[usize],
     nexts: &[usize],
+    raising: &[u64],
     fresh: &mut [u64],
 )
-    requires { ⌜ Roomy (now all) (now ends) (now firsts) (now nexts) × Climbs (now nexts) (sizes .rulecount) × (sizes .rulecount ≤ 256) × (n ≤ 16) × (p < 10) × (a < 64) × (16 ≤ length (now fresh)) ⌝ }
-    ensures { λ _. ⌜ ((g : PushdownGame) (es : List Entry) (rules : List ℕ) → Held g sizes rules → Good g → AllRanged g es → p < g .control → a < g .letters
+    requires { ⌜ Roomy (now all) (now ends) (now firsts) (now nexts) × Climbs (now nexts) (sizes .rulecount) × (sizes .rulecount ≤ 256) × (n ≤ 16) × (p < 10) × (a < 64) × (16 ≤ length (now fresh)) × (512 ≤ length (now raising)) ⌝ }
+    ensures { λ _. ⌜ (Raising (now (raising .entry)) → (g : PushdownGame) (es : List Entry) (rules : List ℕ) → Held g sizes rules → Good g → AllRanged g es → p < g .control → a < g .letters
         → Width (g .states) n → HeadFamilies g es n (now (all .entry)) → RuleFamilies g es n (now (ends .entry)) (sizes .rulecount)
         → Linked rules (sizes .rulecount) (now (firsts .entry)) (now (nexts .entry)) → NoSets (now (fresh .entry))
         → Fresh g es p a n (now (fresh .exit))) ⌝ }
     ensures { λ _. ⌜ length (now (fresh .exit)) ≡ length (now (fresh .entry)) ⌝ }
 {
-    given_sets(sizes, n, p, a, ends, firsts, nexts, fresh);
+    given_sets(sizes, n, p, a, ends, firsts, nexts, raising, fresh);
     remove_at(fresh, 0, all, head_at(p, a), n);
 }
 
@@ -58,10 +60,11 @@ fn given_sets(
     ends: &[u64],
     firsts: &[usize],
     nexts: &[usize],
+    raising: &[u64],
     fresh: &mut [u64],
 )
-    requires { ⌜ (4096 ≤ length (now ends)) × (640 ≤ length (now firsts)) × (256 ≤ length (now nexts)) × Climbs (now nexts) (sizes .rulecount) × (sizes .rulecount ≤ 256) × (n ≤ 16) × (p < 10) × (a < 64) × (16 ≤ length (now fresh)) ⌝ }
-    ensures { λ _. ⌜ ((g : PushdownGame) (es : List Entry) (rules : List ℕ) → Held g sizes rules → Good g → AllRanged g es
+    requires { ⌜ (4096 ≤ length (now ends)) × (640 ≤ length (now firsts)) × (256 ≤ length (now nexts)) × Climbs (now nexts) (sizes .rulecount) × (sizes .rulecount ≤ 256) × (n ≤ 16) × (p < 10) × (a < 64) × (16 ≤ length (now fresh)) × (512 ≤ length (now raising)) ⌝ }
+    ensures { λ _. ⌜ (Raising (now (raising .entry)) → (g : PushdownGame) (es : List Entry) (rules : List ℕ) → Held g sizes rules → Good g → AllRanged g es
         → Width (g .states) n → RuleFamilies g es n (now (ends .entry)) (sizes .rulecount)
         → Linked rules (sizes .rulecount) (now (firsts .entry)) (now (nexts .entry)) → NoSets (now (fresh .entry))
         → HeadGives g es p a n (now (fresh .exit))) ⌝ }
@@ -69,7 +72,7 @@ fn given_sets(
 {
     let first = firsts[(p as usize) * 64 + (a as usize)];
     if has_state(sizes.abelard, p) {
-        all_rules(sizes.rulecount, n, ends, nexts, first, fresh);
+        all_rules(sizes.rulecount, n, ends, nexts, raising, first, fresh);
         return;
     }
     any_rule(sizes.rulecount, n, ends, nexts, first, fresh);
@@ -102,19 +105,20 @@ fn all_rules(
     n: usize,
     ends: &[u64],
     nexts: &[usize],
+    raising: &[u64],
     first: usize,
     fresh: &mut [u64],
 )
-    requires { ⌜ (4096 ≤ length (now ends)) × (256 ≤ length (now nexts)) × Climbs (now nexts) rulecount × (rulecount ≤ 256) × (n ≤ 16) × (16 ≤ length (now fresh)) ⌝ }
-    ensures { λ _. ⌜ ((chain : List ℕ) (k : ℕ) → n ≡ 2 ^ k → Chain rulecount (now (nexts .entry)) first chain → NoSets (now (fresh .entry))
+    requires { ⌜ (4096 ≤ length (now ends)) × (256 ≤ length (now nexts)) × Climbs (now nexts) rulecount × (rulecount ≤ 256) × (n ≤ 16) × (16 ≤ length (now fresh)) × (512 ≤ length (now raising)) ⌝ }
+    ensures { λ _. ⌜ (Raising (now (raising .entry)) → (chain : List ℕ) (k : ℕ) → n ≡ 2 ^ k → Chain rulecount (now (nexts .entry)) first chain → NoSets (now (fresh .entry))
         → AllOf n (now (ends .entry)) chain (now (fresh .exit))) ⌝ }
     ensures { λ _. ⌜ length (now (fresh .exit)) ≡ length (now (fresh .entry)) ⌝ }
 {
     put_at(fresh, 0, 0);
-    let mut sum = [0u64; 16];
     let mut r = first;
     while r < rulecount {
-        unite_at(&mut sum, fresh, ends, r * 16, n);
+        let mut sum = [0u64; 16];
+        unite_into(&mut sum, fresh, 0, ends, r * 16, raising, n);
         copy_at(fresh, 0, &sum, 0, n);
         r = nexts[r];
     }

@@ -3,6 +3,8 @@ use crate::emission::write_round;
 use crate::ends::all_ends;
 use crate::gather::gather;
 use crate::linking::link;
+use family::RAISING;
+use family::fill_raising;
 use game::Sizes;
 ghost use mathlib.Core.Path.{_≡_};
 ghost use mathlib.Core.Bool.{true};
@@ -13,6 +15,7 @@ ghost use Rattle.game.specs.Game.{PushdownGame};
 ghost use Rattle.game.specs.GoodGame.{Good};
 ghost use Rattle.game.specs.Held.{Held, Safe};
 ghost use Rattle.table.specs.Table.{Entry};
+ghost use Rattle.family.specs.Masks.{Raising};
 ghost use Rattle.rounds.specs.Rounds.{candidates};
 ghost use Rattle.rounds.specs.RoundLaws.{AllRanged};
 ghost use Rattle.rounds.specs.Growing.{growing, partly};
@@ -74,9 +77,47 @@ pub fn take_narrow(
         → Filled n (now (table .exit)) r (growing n (candidates g es birthdate) (partly es))) ⌝ }
     ensures { λ _. ⌜ length (now (table .exit)) ≡ length (now (table .entry)) ⌝ }
 {
+    let mut raising = [0u64; RAISING];
+    fill_raising(&mut raising);
+    take_with(
+        sizes,
+        rules,
+        work,
+        table,
+        old,
+        birthdate,
+        all,
+        ends,
+        keys,
+        lines,
+        &raising,
+    )
+}
+
+// The same with the table of masks that unions are formed with.
+fn take_with(
+    sizes: Sizes,
+    rules: &[u8],
+    work: &[u32],
+    table: &mut [u32],
+    old: usize,
+    birthdate: u32,
+    all: &mut [u64],
+    ends: &mut [u64],
+    keys: &mut [usize],
+    lines: &mut [u64],
+    raising: &[u64],
+) -> usize
+    requires { ⌜ Safe sizes (now rules) × (0 < sizes .letters) × (old * 3 ≤ length (now work)) × (birthdate < 65536)
+        × NarrowSizes sizes (length (now all)) (length (now ends)) (length (now keys)) (length (now lines)) × (512 ≤ length (now raising)) ⌝ }
+    ensures { λ r. ⌜ (Raising (now (raising .entry)) → (g : PushdownGame) (es : List Entry) (n : ℕ) → Held g sizes (now (rules .entry)) → Good g → AllRanged g es
+        → Stored n (now (work .entry)) old es → Stored n (now (table .entry)) old es
+        → Filled n (now (table .exit)) r (growing n (candidates g es birthdate) (partly es))) ⌝ }
+    ensures { λ _. ⌜ length (now (table .exit)) ≡ length (now (table .entry)) ⌝ }
+{
     let n = words_of(sizes.states);
     gather(all, work, old, sizes.states, sizes.letters);
-    all_ends(rules, sizes.rulecount, all, ends, keys, lines, n);
+    all_ends(rules, sizes.rulecount, all, ends, keys, lines, raising, n);
     let mut firsts = [0usize; 640];
     let mut nexts = [0usize; 256];
     link(rules, sizes.rulecount, &mut firsts, &mut nexts);
@@ -91,6 +132,7 @@ pub fn take_narrow(
         ends,
         &firsts,
         &nexts,
+        raising,
     )
 }
 

@@ -29,7 +29,7 @@ same-length-2 : tie.Need-same-length-2
 same-length-2 c = search needs
 
 returns : tie.Need-returns
-returns c = (λ g es nw small cached. (line-added g es _ _ _ _ _ _ _ _ (c .before .before .before .before .before .before .before .before .before .before .before .before .before .pre .6) (read-line g es _ (c .before .before .before .before .before .before .before .before .before .before .before .before .before .args .keys .now) _ _ _ _ _ ((c .before .before .before .before .before .before .before .before .line-of .ensures) .1) (c .before .before .before .before .before .before .key-of .ensures) small (nw .letter) cached (c .before .before .before .before .before .if1 .taken)) ((c .before .before .join-at .ensures) .0), cached), ((c .before .before .join-at .ensures) .1, (refl, refl)))
+returns c = (λ ra g es nw small cached. (line-added g es _ _ _ _ _ _ _ _ (c .before .before .before .before .before .before .before .before .before .before .before .before .before .before .pre .6) (read-line g es _ (c .before .before .before .before .before .before .before .before .before .before .before .before .before .before .args .keys .now) _ _ _ _ _ ((c .before .before .before .before .before .before .before .before .line-of .ensures) .1) (c .before .before .before .before .before .before .key-of .ensures) small (nw .letter) cached (c .before .before .before .before .before .if1 .taken)) ((c .before .before .join-at .ensures) .0), cached), ((c .before .before .join-at .ensures) .1, (refl, refl)))
 
 slice-aggregate-form-unions : tie.Need-slice-aggregate-form-unions
 slice-aggregate-form-unions c = search needs
@@ -53,7 +53,7 @@ same-length-5 : tie.Need-same-length-5
 same-length-5 c = search needs
 
 returns-2 : tie.Need-returns-2
-returns-2 c = (λ g es nw small cached. let f = ((c .before .before .before .before .before .before .before .before .before .before .form-unions .ensures) .0) g es nw small (no-sets 16) cached in (line-added g es _ _ _ _ _ _ _ _ (c .before .before .before .before .before .before .before .before .before .before .before .before .before .before .before .before .before .before .before .before .before .before .pre .6) (f .0) ((c .before .before .join-at2 .ensures) .0), f .1), ((c .before .before .join-at2 .ensures) .1, ((c .before .before .before .before .before .before .before .before .before .before .form-unions .ensures) .1 .1 .0, (c .before .before .before .before .before .before .before .before .before .before .form-unions .ensures) .1 .1 .1)))
+returns-2 c = (λ ra g es nw small cached. let f = ((c .before .before .before .before .before .before .before .before .before .before .form-unions .ensures) .0) ra g es nw small (no-sets 16) cached in (line-added g es _ _ _ _ _ _ _ _ (c .before .before .before .before .before .before .before .before .before .before .before .before .before .before .before .before .before .before .before .before .before .before .before .pre .6) (f .0) ((c .before .before .join-at2 .ensures) .0), f .1), ((c .before .before .join-at2 .ensures) .1, ((c .before .before .before .before .before .before .before .before .before .before .form-unions .ensures) .1 .1 .0, (c .before .before .before .before .before .before .before .before .before .before .form-unions .ensures) .1 .1 .1)))
 
 pub add-unions-spec : {M : Type 1} → statement M
 add-unions-spec =

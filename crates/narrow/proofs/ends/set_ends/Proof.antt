@@ -27,13 +27,13 @@ shared-slice-read-c : tie.Need-shared-slice-read-c
 shared-slice-read-c c = search needs
 
 returns : tie.Need-returns
-returns c = (λ g es sizes held ranged l narrow families cached. absurd (let t = told g sizes _ held _ l in omega (arith, c .if1 .taken, t .to, t .control, narrow .states)), (refl, (refl, refl)))
+returns c = (λ ra g es sizes held ranged l narrow families cached. absurd (let t = told g sizes _ held _ l in omega (arith, c .if1 .taken, t .to, t .control, narrow .states)), (refl, (refl, refl)))
 
 returns-2 : tie.Need-returns-2
-returns-2 c = (λ g es sizes held ranged l narrow families cached. absurd (let t = told g sizes _ held _ l in omega (arith, c .if2 .taken, t .above, t .letters)), (refl, (refl, refl)))
+returns-2 c = (λ ra g es sizes held ranged l narrow families cached. absurd (let t = told g sizes _ held _ l in omega (arith, c .if2 .taken, t .above, t .letters)), (refl, (refl, refl)))
 
 returns-3 : tie.Need-returns-3
-returns-3 c = (λ g es sizes held ranged l narrow families cached. absurd (let t = told g sizes _ held _ l in omega (arith, c .if3 .taken, t .below, t .letters)), (refl, (refl, refl)))
+returns-3 c = (λ ra g es sizes held ranged l narrow families cached. absurd (let t = told g sizes _ held _ l in omega (arith, c .if3 .taken, t .below, t .letters)), (refl, (refl, refl)))
 
 mul-clear-at : tie.Need-mul-clear-at
 mul-clear-at c = search needs
@@ -63,7 +63,7 @@ same-length-3 : tie.Need-same-length-3
 same-length-3 c = search needs
 
 returns-4 : tie.Need-returns-4
-returns-4 c = (λ g es sizes held ranged l narrow families cached. let t = told g sizes _ held _ l in let a = (c .before .before .before .before .before .before .add-ends .ensures) .0 g es ranged (narrow-at g es _ _ _ narrow (t .below)) (omega (arith, t .to, t .control)) (t .above) cached in (rule-turn g sizes _ held _ l es _ _ _ _ (c .before .before .before .before .before .before .before .before .before .before .before .before .before .before .before .before .before .before .before .before .before .before .before .before .before .before .pre .6) families ((c .before .before .before .before .before .before .before .before .before .before .before .before .before .clear-at .ensures) .0) (a .0), a .1), (same-length c, (same-length-2 c, same-length-3 c)))
+returns-4 c = (λ ra g es sizes held ranged l narrow families cached. let t = told g sizes _ held _ l in let a = (c .before .before .before .before .before .before .add-ends .ensures) .0 ra g es ranged (narrow-at g es _ _ _ narrow (t .below)) (omega (arith, t .to, t .control)) (t .above) cached in (rule-turn g sizes _ held _ l es _ _ _ _ (c .before .before .before .before .before .before .before .before .before .before .before .before .before .before .before .before .before .before .before .before .before .before .before .before .before .before .before .pre .6) families ((c .before .before .before .before .before .before .before .before .before .before .before .before .before .clear-at .ensures) .0) (a .0), a .1), (same-length c, (same-length-2 c, same-length-3 c)))
 
 pub set-ends-spec : {M : Type 1} → statement M
 set-ends-spec =

@@ -26,7 +26,7 @@ same-length : tie.Need-same-length
 same-length c = search needs
 
 returns : tie.Need-returns
-returns c = (λ g es rules held good ranged width families links none. abelard-gives g _ rules held good es ranged _ width _ families _ _ links _ _ (c .before .before .before .before .before .before .before .before .before .before .before .pre .6) (c .before .before .before .before .before .before .before .before .before .before .before .pre .7) _ (sym (c .before .before .before .before .before .has-state .ensures) ∙ c .before .before .before .before .if1 .taken) (((c .before .before .all-rules .ensures) .0) _ (width .power .0) (width .power .1) (follows g _ rules held good es ranged _ width _ families _ _ links _ _ (c .before .before .before .before .before .before .before .before .before .before .before .pre .6) (c .before .before .before .before .before .before .before .before .before .before .before .pre .7)) none), (c .before .before .all-rules .ensures) .1)
+returns c = (λ ra g es rules held good ranged width families links none. abelard-gives g _ rules held good es ranged _ width _ families _ _ links _ _ (c .before .before .before .before .before .before .before .before .before .before .before .before .pre .6) (c .before .before .before .before .before .before .before .before .before .before .before .before .pre .7) _ (sym (c .before .before .before .before .before .has-state .ensures) ∙ c .before .before .before .before .if1 .taken) (((c .before .before .all-rules .ensures) .0) ra _ (width .power .0) (width .power .1) (follows g _ rules held good es ranged _ width _ families _ _ links _ _ (c .before .before .before .before .before .before .before .before .before .before .before .before .pre .6) (c .before .before .before .before .before .before .before .before .before .before .before .before .pre .7)) none), (c .before .before .all-rules .ensures) .1)
 
 any-rule-requires : tie.Need-any-rule-requires
 any-rule-requires c κs = search needs
@@ -35,7 +35,7 @@ same-length-2 : tie.Need-same-length-2
 same-length-2 c = search needs
 
 returns-2 : tie.Need-returns-2
-returns-2 c = (λ g es rules held good ranged width families links none. eloise-gives g _ rules held good es ranged _ width _ families _ _ links _ _ (c .before .before .before .before .before .before .before .before .before .before .before .pre .6) (c .before .before .before .before .before .before .before .before .before .before .before .pre .7) _ (sym (c .before .before .before .before .before .has-state .ensures) ∙ c .before .before .before .before .if1 .left) (((c .before .before .any-rule .ensures) .0) _ (follows g _ rules held good es ranged _ width _ families _ _ links _ _ (c .before .before .before .before .before .before .before .before .before .before .before .pre .6) (c .before .before .before .before .before .before .before .before .before .before .before .pre .7)) none), (c .before .before .any-rule .ensures) .1)
+returns-2 c = (λ ra g es rules held good ranged width families links none. eloise-gives g _ rules held good es ranged _ width _ families _ _ links _ _ (c .before .before .before .before .before .before .before .before .before .before .before .before .pre .6) (c .before .before .before .before .before .before .before .before .before .before .before .before .pre .7) _ (sym (c .before .before .before .before .before .has-state .ensures) ∙ c .before .before .before .before .if1 .left) (((c .before .before .any-rule .ensures) .0) _ (follows g _ rules held good es ranged _ width _ families _ _ links _ _ (c .before .before .before .before .before .before .before .before .before .before .before .before .pre .6) (c .before .before .before .before .before .before .before .before .before .before .before .before .pre .7)) none), (c .before .before .any-rule .ensures) .1)
 
 pub given-sets-spec : {M : Type 1} → statement M
 given-sets-spec =

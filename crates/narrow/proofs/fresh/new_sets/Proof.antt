@@ -18,7 +18,7 @@ same-length : tie.Need-same-length
 same-length c = search needs
 
 returns : tie.Need-returns
-returns c = (λ g es rules held good ranged lp la width heads families links none. fresh-sets g es _ _ _ _ _ _ (heads _ _ (omega (arith, lp, good .ranged .control)) la) (((c .before .before .before .before .before .before .before .given-sets .ensures) .0) g es rules held good ranged width families links none) (at-head (c .before .before .before .head-at .ensures) ((c .before .before .remove-at .ensures) .0)), (c .before .before .remove-at .ensures) .1 ∙ (c .before .before .before .before .before .before .before .given-sets .ensures) .1)
+returns c = (λ ra g es rules held good ranged lp la width heads families links none. fresh-sets g es _ _ _ _ _ _ (heads _ _ (omega (arith, lp, good .ranged .control)) la) (((c .before .before .before .before .before .before .before .given-sets .ensures) .0) ra g es rules held good ranged width families links none) (at-head (c .before .before .before .head-at .ensures) ((c .before .before .remove-at .ensures) .0)), (c .before .before .remove-at .ensures) .1 ∙ (c .before .before .before .before .before .before .before .given-sets .ensures) .1)
 
 pub new-sets-spec : {M : Type 1} → statement M
 new-sets-spec =

@@ -1,36 +1,19 @@
--- The families of the heads, the ends of the rules and the links are what writing the round needs.
-use native.Mathlib.Omega.{arith}
-use Rattle.narrow.proofs.NarrowTurns.{climbs, states-of, letters-of, rules-of, width-of, round-of}
+-- The table of masks is full when the round is taken with it.
 use borrow.Author.Needs.{needs}
 use Rattle.narrow.proofs.narrow.take_narrow.Statement.{statement}
 use Rattle.narrow.proofs.narrow.take_narrow.Tie as tie
 
-words-of-requires : tie.Need-words-of-requires
-words-of-requires c κs = search needs
+slice-aggregate-fill-raising : tie.Need-slice-aggregate-fill-raising
+slice-aggregate-fill-raising c = search needs
 
-gather-requires : tie.Need-gather-requires
-gather-requires c κs = search needs
+fill-raising-requires : tie.Need-fill-raising-requires
+fill-raising-requires c κs = search needs
 
-all-ends-requires : tie.Need-all-ends-requires
-all-ends-requires c κs = search needs
+slice-aggregate-take-with : tie.Need-slice-aggregate-take-with
+slice-aggregate-take-with c = search needs
 
-slice-aggregate-link : tie.Need-slice-aggregate-link
-slice-aggregate-link c = search needs
-
-slice-aggregate-link-2 : tie.Need-slice-aggregate-link-2
-slice-aggregate-link-2 c = search needs
-
-link-requires : tie.Need-link-requires
-link-requires c κs = search needs
-
-slice-aggregate-write-round : tie.Need-slice-aggregate-write-round
-slice-aggregate-write-round c = search needs
-
-slice-aggregate-write-round-2 : tie.Need-slice-aggregate-write-round-2
-slice-aggregate-write-round-2 c = search needs
-
-write-round-requires : tie.Need-write-round-requires
-write-round-requires c κs = (record { heads = omega (arith, (c .before .before .before .before .before .before .before .before .before .before .before .before .before .before .before .before .before .before .before .before .before .before .before .gather .ensures) .1, c .before .before .before .before .before .before .before .before .before .before .before .before .before .before .before .before .before .before .before .before .before .before .before .before .before .before .before .before .before .before .before .before .before .pre .4 .room); rules = omega (arith, (c .before .before .before .before .before .before .before .before .before .before .before .before .before .before .before .before .all-ends .ensures) .1 .0, c .before .before .before .before .before .before .before .before .before .before .before .before .before .before .before .before .before .before .before .before .before .before .before .before .before .before .before .before .before .before .before .before .before .pre .4 .rules); starts = omega (arith, (c .before .before .before .before .before .before .before .link .ensures) .1 .0); links = omega (arith, (c .before .before .before .before .before .before .before .link .ensures) .1 .1) }, climbs _ _ _ _ ((c .before .before .before .before .before .before .before .link .ensures) .0), c .before .before .before .before .before .before .before .before .before .before .before .before .before .before .before .before .before .before .before .before .before .before .before .before .before .before .before .before .before .before .before .before .before .pre .0 .few, (c .before .before .before .before .before .before .before .before .before .before .before .before .before .before .before .before .before .before .before .before .before .before .before .before .before .words-of .ensures) .few, c .before .before .before .before .before .before .before .before .before .before .before .before .before .before .before .before .before .before .before .before .before .before .before .before .before .before .before .before .before .before .before .before .before .pre .4 .control, c .before .before .before .before .before .before .before .before .before .before .before .before .before .before .before .before .before .before .before .before .before .before .before .before .before .before .before .before .before .before .before .before .before .pre .1, c .before .before .before .before .before .before .before .before .before .before .before .before .before .before .before .before .before .before .before .before .before .before .before .before .before .before .before .before .before .before .before .before .before .pre .4 .letters, c .before .before .before .before .before .before .before .before .before .before .before .before .before .before .before .before .before .before .before .before .before .before .before .before .before .before .before .before .before .before .before .before .before .pre .2, c .before .before .before .before .before .before .before .before .before .before .before .before .before .before .before .before .before .before .before .before .before .before .before .before .before .before .before .before .before .before .before .before .before .pre .3)
+take-with-requires : tie.Need-take-with-requires
+take-with-requires c κs = search needs
 
 same-length : tie.Need-same-length
 same-length c = search needs
@@ -48,21 +31,16 @@ same-length-5 : tie.Need-same-length-5
 same-length-5 c = search needs
 
 returns : tie.Need-returns
-returns c = (λ g es m held good ranged work table. let heads = ((c .before .before .before .before .before .before .before .before .before .before .before .before .before .before .before .before .before .before .before .before .before .before .before .before .before .before .gather .ensures) .0) g es m _ (states-of g _ _ held) (letters-of g _ _ held) ranged work ((c .before .before .before .before .before .before .before .before .before .before .before .before .before .before .before .before .before .before .before .before .before .before .before .before .before .before .before .before .words-of .ensures) .few) in ((c .before .before .write-round .ensures) .0) g es m _ held good ranged work table (width-of g _ _ held (c .before .before .before .before .before .before .before .before .before .before .before .before .before .before .before .before .before .before .before .before .before .before .before .before .before .before .before .before .words-of .ensures)) heads (((c .before .before .before .before .before .before .before .before .before .before .before .before .before .before .before .before .before .before .before .all-ends .ensures) .0) g es _ held ranged (rules-of g _ _ held) (round-of g _ _ held es _ (c .before .before .before .before .before .before .before .before .before .before .before .before .before .before .before .before .before .before .before .before .before .before .before .before .before .before .before .before .before .before .before .before .before .before .before .before .pre .4 .states) (c .before .before .before .before .before .before .before .before .before .before .before .before .before .before .before .before .before .before .before .before .before .before .before .before .before .before .before .before .words-of .ensures) heads)) ((c .before .before .before .before .before .before .before .before .before .before .link .ensures) .0), (c .before .before .write-round .ensures) .1)
+returns c = ((c .before .before .before .before .before .before .before .before .before .before .take-with .ensures) .0 ((c .before .before .before .before .before .before .before .before .before .before .before .before .before .before .before .before .before .before .fill-raising .ensures) .0), (c .before .before .before .before .before .before .before .before .before .before .take-with .ensures) .1)
 
 pub take-narrow-spec : {M : Type 1} → statement M
 take-narrow-spec =
     tie.close
     (tie.spec
-    words-of-requires
-    gather-requires
-    all-ends-requires
-    slice-aggregate-link
-    slice-aggregate-link-2
-    link-requires
-    slice-aggregate-write-round
-    slice-aggregate-write-round-2
-    write-round-requires
+    slice-aggregate-fill-raising
+    fill-raising-requires
+    slice-aggregate-take-with
+    take-with-requires
     same-length
     same-length-2
     same-length-3
