@@ -1,0 +1,10 @@
+pub mod Expand
+pub mod UnionSteps
+pub mod ExpandLaws
+pub mod Pool
+pub mod JoinLaws
+pub mod PoolLaws
+pub mod Finding
+pub mod Ending
+pub mod Log
+pub mod EndingLaws
