@@ -1,20 +1,18 @@
--- Bits of words: of both, of either, of one without the other, of a shift, of the words of sets that have a state, and of a set with a state more.
-use Prim.Native.Nat.{ℕ, zero, suc, _+_, _*_, _-_, _/_, _%_, _^_, _<_, _≤_, min, max}
+-- Bits of words: of a shift, of the words of sets that have a state, and of a set with a state more.
+use Prim.Native.Nat.{ℕ, _+_, _*_, _-_, _/_, _%_, _^_, _<_, _≤_}
 use native.Mathlib.Omega.{arith}
-use native.Mathlib.Nat.{mod-lt, one-mul, mod-eq-of-lt, add-mul-div-right}
+use native.Mathlib.Nat.{one-mul, mod-eq-of-lt, add-mul-div-right}
 use mathlib.Core.Path.{_≡_, refl, sym, ap, _∙_}
 use mathlib.Core.Logic.{⊎-elim}
-use mathlib.Core.Bool.{Bool, true, false, not, _&&_, _||_, and-true, and-false}
-use lib.Bits.{bitAnd, bitOr, bitXor, differ, and-shr, or-shr, xor-shr, and-step, or-step, xor-step, and-high, or-add-and}
+use mathlib.Core.Bool.{Bool, true, false}
+use lib.Bits.{bitAnd, and-high, or-add-and}
 use lib.Pow.{pow-lt, pow-pos, pow-add, field, shl-shr, shr-shr, mod-mod-pow}
 use lib.Dec.{eqb, ltb}
 use borrow.Author.Tests.{eqb-true, eqb-false, eq-eqb, ne-eqb, ltb-true, ltb-false}
-use lib.Arith.{digits-mod}
 use Rattle.game.specs.Sets.{has, union}
 use Rattle.game.specs.SetLaws.{has-above}
 use Rattle.game.specs.ListLaws.{allBelow-at, test, clash}
 use Rattle.game.specs.Questions.{allBelow}
-use Rattle.family.specs.DigitLaws.{has-and, has-or}
 
 -- a word shifted within 64 bits
 pub has-shifted : (w k s : ℕ) → k ≤ s → s < 64 → has (w * 2 ^ k % 2 ^ 64) s ≡ has w (s - k)
@@ -75,34 +73,9 @@ state-within s e h =
     (λ (t : ltb s (2 ^ e) ≡ false). ltb-false s (2 ^ e) t)
     (test (ltb s (2 ^ e)))
 
--- the word of a word's sets with a state more
-pub with-more : (w mask e s : ℕ) → has mask s ≡ has s e → s < 64
-    → has (bitAnd (bitOr w (w * 2 ^ (2 ^ e) % 2 ^ 64)) mask) s ≡ (has s e && (has w s || has w (s - 2 ^ e)))
-with-more w mask e s m l =
-    has-and (bitOr w (w * 2 ^ (2 ^ e) % 2 ^ 64)) mask s
-    ∙ ap (λ (b : Bool). has (bitOr w (w * 2 ^ (2 ^ e) % 2 ^ 64)) s && b) m
-    ∙ ⊎-elim
-    (λ (t : has s e ≡ true).
-    ap (λ (b : Bool). has (bitOr w (w * 2 ^ (2 ^ e) % 2 ^ 64)) s && b) t
-    ∙ and-true (has (bitOr w (w * 2 ^ (2 ^ e) % 2 ^ 64)) s)
-    ∙ has-or w (w * 2 ^ (2 ^ e) % 2 ^ 64) s
-    ∙ ap (has w s ||_) (has-shifted w (2 ^ e) s (state-within s e t) l)
-    ∙ sym (ap (_&& (has w s || has w (s - 2 ^ e))) t))
-    (λ (t : has s e ≡ false).
-    ap (λ (b : Bool). has (bitOr w (w * 2 ^ (2 ^ e) % 2 ^ 64)) s && b) t
-    ∙ and-false (has (bitOr w (w * 2 ^ (2 ^ e) % 2 ^ 64)) s)
-    ∙ sym (ap (_&& (has w s || has w (s - 2 ^ e))) t))
-    (test (has s e))
-
--- one digit shifted within 64 bits, and by a state below 6
+-- one digit shifted within 64 bits
 pub digit-shift : (j : ℕ) → j < 64 → 1 * 2 ^ j % 2 ^ 64 ≡ 2 ^ j
 digit-shift j l = rw one-mul (mod-eq-of-lt (pow-lt {j = 64} l))
-
-pub shift-is : (e : ℕ) → e < 6 → 1 * 2 ^ e % 4294967296 ≡ 2 ^ e
-shift-is e l = rw one-mul (mod-eq-of-lt (pow-lt {j = 32} (omega arith)))
-
-pub shift-small : (e : ℕ) → e < 6 → 1 * 2 ^ e % 4294967296 < 64
-shift-small e l = rw (shift-is e l) (pow-lt {j = 6} l)
 
 -- a number with a digit more or less
 pub digit-set : (j k : ℕ) → has j k ≡ false → has (j + 2 ^ k) k ≡ true

@@ -5,6 +5,5 @@ pub mod Inside
 pub mod Into
 pub mod Lifting
 pub mod Places
-pub mod Rows
 pub mod Subsets
 pub mod Unions

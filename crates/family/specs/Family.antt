@@ -22,12 +22,6 @@ pub record Lifts (word x r : ℕ) : Type 0 where
   pub from : (s : ℕ) → s < 64 → has r s ≡ true → (y : ℕ) × (y < 64) × (has word y ≡ true) × (s ≡ union y x)
   pub into : (y : ℕ) → y < 64 → has word y ≡ true → has r (union y x) ≡ true
 
--- The same of families of n words: one at the front of an area, one at a place of another, the unions at the front of a third.
-pub record Product (n : ℕ) (a others : List ℕ) (at : ℕ) (out : List ℕ) : Type 0 where
-  pub from : (x : ℕ) → x / 64 < n → holds out 0 x ≡ true
-      → (y z : ℕ) × (y / 64 < n) × (z / 64 < n) × (holds a 0 y ≡ true) × (holds others at z ≡ true) × (x ≡ union y z)
-  pub into : (y z : ℕ) → y / 64 < n → z / 64 < n → holds a 0 y ≡ true → holds others at z ≡ true → holds out 0 (union y z) ≡ true
-
 -- the union of a set of word i of a family with a set of a family of n words
 abbrev pub UnionIn : ℕ → ℕ → ℕ → List ℕ → ℕ → ℕ → Type 0
 UnionIn n word i others at x =

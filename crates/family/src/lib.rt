@@ -2,7 +2,6 @@
 //
 // It leaves out where families come from and what they are for, which is the solver's.
 mod area;
-mod product;
 mod raising;
 mod uniting;
 mod words;
@@ -15,7 +14,6 @@ pub use area::join_at;
 pub use area::put_at;
 pub use area::remove_at;
 pub use area::take_in;
-pub use product::unite_at;
 pub use raising::RAISING;
 pub use raising::fill_raising;
 pub use raising::subsets_at;

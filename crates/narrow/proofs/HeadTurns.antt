@@ -12,10 +12,10 @@ use borrow.Author.Tests.{eqb-true}
 use Rattle.game.specs.Sets.{union}
 use Rattle.game.specs.UnionLaws.{union-assoc, union-none, none-union}
 use Rattle.game.specs.ListLaws.{_∈_, both, either, left-or, right-or, clash}
-use Rattle.family.specs.Family.{holds, Put, Joined, Product, Copied}
+use Rattle.family.specs.Family.{holds, Put, Joined, Copied}
 use Rattle.narrow.specs.Families.{NoSets}
 use Rattle.narrow.specs.Linking.{Chain, ended, linked}
-use Rattle.narrow.specs.HeadSets.{AnyOf, OneEach, AllOf}
+use Rattle.narrow.specs.HeadSets.{Product, AnyOf, OneEach, AllOf}
 use Rattle.narrow.specs.WidthLaws.{union-width}
 
 -- the first of a chain, and the chain after it

@@ -18,12 +18,13 @@ use Rattle.game.specs.SetLaws.{has-below, has-from, has-above, none-has, member
 use Rattle.game.specs.UnionLaws.{union-assoc, union-none, none-union}
 use Rattle.game.specs.ListLaws.{_∈_, test, clash, both, either, left-or, right-or, below-suc, map-in, in-map, flatMap-in, in-flatMap}
 use Rattle.table.specs.Table.{Entry}
-use Rattle.family.specs.Family.{holds, Put, Product, UnitesInto, Copied, Joined}
+use Rattle.family.specs.Family.{holds, Put, UnitesInto, Copied, Joined}
 use Rattle.rounds.specs.Rounds.{members, setsOf, unions, ends}
 use Rattle.rounds.specs.MemberLaws.{has-mod, members-none}
 use Rattle.rounds.specs.Scans.{Highest}
 use Rattle.narrow.specs.Families.{Is, NoSets, headAt, keyFor, Cached, unionsOf}
 use Rattle.narrow.specs.Ends.{Top, Narrow, Added, Adds, InUnions}
+use Rattle.narrow.specs.HeadSets.{Product}
 
 -- one more family at the end
 pub snoc-in : (fs : List (List ℕ)) (f : List ℕ) (x : ℕ) → x ∈ unions (fs ++ (f ∷ [])) → (u v : ℕ) × u ∈ unions fs × v ∈ f × (x ≡ union u v)

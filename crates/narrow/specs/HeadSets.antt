@@ -7,6 +7,13 @@ use Rattle.game.specs.Sets.{union}
 use Rattle.game.specs.ListLaws.{_∈_}
 use Rattle.family.specs.Family.{holds}
 
+-- The unions of a set of one family with a set of another: one at the front of an area, one at a place of another, the unions at the
+-- front of a third.
+pub record Product (n : ℕ) (a others : List ℕ) (at : ℕ) (out : List ℕ) : Type 0 where
+  pub from : (x : ℕ) → x / 64 < n → holds out 0 x ≡ true
+      → (y z : ℕ) × (y / 64 < n) × (z / 64 < n) × (holds a 0 y ≡ true) × (holds others at z ≡ true) × (x ≡ union y z)
+  pub into : (y z : ℕ) → y / 64 < n → z / 64 < n → holds a 0 y ≡ true → holds others at z ≡ true → holds out 0 (union y z) ≡ true
+
 -- the sets of the families of some rules
 pub record AnyOf (n : ℕ) (ends : List ℕ) (rs : List ℕ) (words : List ℕ) : Type 0 where
   pub from : (x : ℕ) → x / 64 < n → holds words 0 x ≡ true → (r : ℕ) × r ∈ rs × (holds ends (r * 16) x ≡ true)
