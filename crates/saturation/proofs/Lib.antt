@@ -4,3 +4,10 @@ pub mod Renewing
 pub mod Summing
 pub mod Choosing
 pub mod Writes
+pub mod Expanding
+pub mod Ranking
+pub mod Offering
+pub mod Giving
+pub mod Members
+pub mod Gathering
+pub mod Naming

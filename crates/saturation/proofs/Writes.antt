@@ -12,20 +12,21 @@ use lib.Pow.{pow-lt}
 use borrow.Author.Tests.{eqb-true, eq-eqb}
 use Rattle.game.specs.Sets.{has, single}
 use Rattle.game.specs.ListLaws.{_∈_, clash, both, conj, either, right-or, test, flatMap-in, in-flatMap}
-use Rattle.game.specs.Game.{PushdownGame, wordOf}
+use Rattle.game.specs.Game.{Rule, PushdownGame, wordOf}
+use Rattle.game.specs.Stored.{ruleAt}
 use Rattle.table.specs.Table.{Entry}
 use Rattle.judge.specs.Target.{zero-or-more}
-use Rattle.family.specs.Family.{holds, Put, Copied}
+use Rattle.family.specs.Family.{holds, Put, Copied, TakenIn}
 use Rattle.family.specs.DigitLaws.{has-less}
 use Rattle.rounds.specs.Rounds.{setsOf, ends}
 use Rattle.rounds.specs.EndsLaws.{setsOf-in}
 use Rattle.saturation.specs.Expand.{expand}
 use Rattle.saturation.specs.ExpandLaws.{expand-single, expand-same}
-use Rattle.saturation.specs.UnionSteps.{unionsOf}
-use Rattle.saturation.specs.Pool.{Grew, Head, Pool, HeadsHold, Layout}
+use Rattle.saturation.specs.UnionSteps.{unionsOf, tables-more}
+use Rattle.saturation.specs.Pool.{Is, Grew, Head, Pool, HeadsHold, Layout, Kept}
 use Rattle.saturation.specs.JoinLaws.{grew-as}
-use Rattle.saturation.specs.Ending.{Sum, Picked, Sets, Runs, Ends, Before, NoSets, Listed, Growth}
-use Rattle.saturation.specs.EndingLaws.{copied-grew, runs-grew}
+use Rattle.saturation.specs.Ending.{Sum, Picked, Sets, Runs, Ends, Before, NoSets, Listed, Growth, RuleEnds, RuleBefore}
+use Rattle.saturation.specs.EndingLaws.{copied-grew, runs-grew, taken-is}
 
 -- no transition is in an empty table
 no-head : (q a z : ℕ) → Head [] q a z → ⊥
@@ -127,3 +128,39 @@ module _ (el : List ℕ) (g : PushdownGame) (n heads : ℕ) (states : List ℕ) 
 
 pub still-small : (f : ℕ) → bitXor 1023 (bitAnd 1023 f) < 1024
 still-small f = xor-lt 10 1023 (bitAnd 1023 f) (omega arith) (omega (arith, and-le-l 1023 f))
+
+-- a table that keeps the transitions of an older one keeps its ends
+pub ends-kept : (g : PushdownGame) (old es : List Entry) → Kept old es → (q w b c z : ℕ) → Ends g old q (wordOf w b c) z → Ends g es q (wordOf w b c) z
+unfolding ends wordOf
+ends-kept g old es kept q w b c z m =
+    ⊎-elim
+    (λ (t : eqb w 0 ≡ true). rw t (rw t at m))
+    (λ (t : eqb w 0 ≡ false).
+    ⊎-elim
+    (λ (u : eqb w 1 ≡ true). rw (t, u) (kept q b z (rw (t, u) at m)))
+    (λ (u : eqb w 1 ≡ false).
+    rw (t, u)
+    (let f = flatMap-in (unionsOf g old c) (setsOf old q b) (rw (t, u) at m) in
+    in-flatMap (unionsOf g es c) (kept q b (f .0) (f .1)) (tables-more g old es c (f .0) (λ s l h v k. kept s c v k) z (f .2))))
+    (test (eqb w 1)))
+    (test (eqb w 0))
+
+-- the ends of a rule by its bytes
+module _ (el : List ℕ) (g : PushdownGame) (n : ℕ) (old es : List Entry) (i r : ℕ) (rules : List ℕ) (rule : Rule) (eq : rule ≡ ruleAt rules (r * 6) (rule .number)) where
+  pub to-is : getD rules (r * 6 + 2) 0 ≡ rule .to
+  to-is = sym (ap (λ (x : Rule). x .to) eq)
+
+  pub count-is : getD rules (r * 6 + 3) 0 ≡ rule .count
+  count-is = sym (ap (λ (x : Rule). x .count) eq)
+
+  pub rule-renewed : (q w b c : ℕ) (more ends ends′ grown grown′ : List ℕ) → q ≡ getD rules (r * 6 + 2) 0 → w ≡ getD rules (r * 6 + 3) 0 → b ≡ getD rules (r * 6 + 4) 0
+      → c ≡ getD rules (r * 6 + 5) 0 → ((x : ℕ) → x < 2 ^ length el → x / 64 < n) → Kept old es
+      → Grew el n more 0 (Ends g es q (wordOf w b c)) (Before g old i q (wordOf w b c)) → Is el n ends (r * n) (RuleBefore g old i rule)
+      → TakenIn n more (r * n) ends ends′ grown grown′
+      → Is el n ends′ (r * n) (RuleEnds g es rule) × Grew el n grown′ (r * n) (RuleEnds g es rule) (RuleBefore g old i rule)
+  rule-renewed q w b c more ends ends′ grown grown′ eq′ ew eb ec room kept grew is taken =
+      taken-is el n more ends ends′ grown grown′ (r * n) (RuleEnds g es rule) (RuleBefore g old i rule) room
+      (λ z m. ends-kept g old es kept (rule .to) (rule .count) (rule .above) (rule .below) z (m .1))
+      is
+      (rw (sym (eq′ ∙ to-is), sym (ew ∙ count-is), sym (eb ∙ sym (ap (λ (x : Rule). x .above) eq)), sym (ec ∙ sym (ap (λ (x : Rule). x .below) eq))) grew)
+      taken

@@ -1,12 +1,12 @@
 -- The unions over several sets, put into one family.
-use Prim.Native.Nat.{ℕ, _+_, _/_, _%_, _^_, _<_, _≤_}
+use Prim.Native.Nat.{ℕ, _+_, _*_, _/_, _%_, _^_, _<_, _≤_}
 use mathlib.Core.Path.{_≡_}
 use mathlib.Core.Logic.{_⊎_}
 use mathlib.Core.Bool.{true, false}
 use mathlib.Core.List.{List, []}
 use lib.ListN.{length, getD}
 use Rattle.game.specs.Sets.{has, union}
-use Rattle.game.specs.Game.{PushdownGame}
+use Rattle.game.specs.Game.{Rule, PushdownGame, wordOf}
 use Rattle.game.specs.ListLaws.{_∈_}
 use Rattle.table.specs.Table.{Entry}
 use Rattle.rounds.specs.Rounds.{ends}
@@ -80,3 +80,18 @@ pub record Growth (el : List ℕ) (g : PushdownGame) (n : ℕ) (old es : List En
   pub numbered : (k : ℕ) → k < length el → getD numbers (getD el k 0) 0 ≡ 2 ^ k
   pub ranged : AllRanged g es
   pub first : i ≡ 0 → old ≡ []
+
+-- the same of a rule
+abbrev pub RuleEnds : PushdownGame → List Entry → Rule → ℕ → Type 0
+RuleEnds g es r = Ends g es (r .to) (wordOf (r .count) (r .above) (r .below))
+
+abbrev pub RuleBefore : PushdownGame → List Entry → ℕ → Rule → ℕ → Type 0
+RuleBefore g old i r = Before g old i (r .to) (wordOf (r .count) (r .above) (r .below))
+
+-- what the indices of a rule's bytes need
+pub record RuleFits (rules : List ℕ) (letters heads r : ℕ) : Type 0 where
+  pub there : r * 6 + 6 ≤ length rules
+  pub row : getD rules (r * 6 + 2) 0 * letters + letters ≤ heads
+  pub above : getD rules (r * 6 + 4) 0 < letters
+  pub below : getD rules (r * 6 + 5) 0 < letters
+  pub state : getD rules (r * 6 + 2) 0 < 32

@@ -8,3 +8,9 @@ pub mod Finding
 pub mod Ending
 pub mod Log
 pub mod EndingLaws
+pub mod Ranks
+pub mod RankLaws
+pub mod EntryRanks
+pub mod Taking
+pub mod Offers
+pub mod ElementsOf

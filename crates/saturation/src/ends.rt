@@ -4,6 +4,8 @@ use family::copy_at;
 use family::join_at;
 use family::put_at;
 use family::subsets_at;
+use family::take_in;
+use game::Game;
 ghost use mathlib.Core.Path.{_≡_};
 ghost use mathlib.Core.Bool.{true, false};
 ghost use mathlib.Core.List.{List};
@@ -12,11 +14,89 @@ ghost use Prim.Native.Nat.{ℕ, suc, _+_, _*_, _/_, _%_, _^_, _<_, _≤_};
 ghost use lib.ListN.{length, getD};
 ghost use Rattle.game.specs.Sets.{has};
 ghost use Rattle.game.specs.LowestLaws.{LowestOf};
-ghost use Rattle.game.specs.Game.{PushdownGame, wordOf};
+ghost use Rattle.game.specs.Game.{Rule, PushdownGame, wordOf};
+ghost use Rattle.game.specs.GoodGame.{GoodRule};
+ghost use Rattle.game.specs.Stored.{ruleAt};
+ghost use Rattle.family.specs.Family.{Elsewhere};
 ghost use Rattle.table.specs.Table.{Entry};
 ghost use Rattle.family.specs.Masks.{Raising};
-ghost use Rattle.saturation.specs.Pool.{Fits, Pool, Grew};
-ghost use Rattle.saturation.specs.Ending.{Sum, OfWord, Picked, Choice, Sets, Masked, Growth, Listed, Ends, Before, NoSets};
+ghost use Rattle.saturation.specs.Pool.{Fits, Pool, Grew, Is, Kept};
+ghost use Rattle.saturation.specs.Ending.{Sum, OfWord, Picked, Choice, Sets, Masked, Growth, Listed, Ends, Before, NoSets, RuleFits, RuleEnds, RuleBefore};
+
+// What the ends of rule r's runs have more: put into its ends, and left in `grown`. How many lines there are.
+pub fn renew_rule(
+    r: usize,
+    rules: &[u8],
+    states: &[u8],
+    numbers: &[usize],
+    letters: usize,
+    heads: usize,
+    n: usize,
+    all: &mut [u64],
+    new: &[u64],
+    count: usize,
+    keys: &mut [u32],
+    rests: &mut [u32],
+    hints: &mut [u32],
+    fresh: &[usize],
+    alive: &[usize],
+    ends: &mut [u64],
+    grown: &mut [u64],
+    raising: &[u64],
+) -> usize
+    requires { ⌜ Fits letters heads n (now states) (now all) (now keys) (now rests) (now hints) × (letters ≤ 64)
+        × (count ≤ length (now keys)) × (512 ≤ length (now raising)) × (length (now new) ≡ length (now all)) × Masked (now numbers) (now fresh) (now alive)
+        × RuleFits (now rules) letters heads r × (r < 256) × (r * n + n ≤ length (now ends)) × (r * n + n ≤ length (now grown)) ⌝ }
+    ensures { λ x. ⌜ ((el : List ℕ) (g : PushdownGame) (old es : List Entry) (i : ℕ) (rule : Rule) → Raising (now (raising .entry)) → letters ≡ g .letters
+        → rule ≡ ruleAt (now (rules .entry)) (r * 6) (rule .number) → GoodRule (g .control) (g .letters) rule → g .control ≤ g .states → Kept old es
+        → Growth el g n old es i (now (numbers .entry)) (now (new .entry)) (now (fresh .entry)) (now (alive .entry)) → (rule .count ≡ 0 → Listed el (rule .to))
+        → Pool el g n heads (now (states .entry)) es (now (all .entry)) (now (keys .entry)) (now (rests .entry)) count
+        → Is el n (now (ends .entry)) (r * n) (RuleBefore g old i rule)
+        → Pool el g n heads (now (states .entry)) es (now (all .exit)) (now (keys .exit)) (now (rests .exit)) x
+        × Is el n (now (ends .exit)) (r * n) (RuleEnds g es rule) × Grew el n (now (grown .exit)) (r * n) (RuleEnds g es rule) (RuleBefore g old i rule)) ⌝ }
+    ensures { λ x. ⌜ (x ≤ length (now (keys .entry))) × Elsewhere (r * n) n (now (ends .entry)) (now (ends .exit)) × Elsewhere (r * n) n (now (grown .entry)) (now (grown .exit)) ⌝ }
+    ensures { λ _. ⌜ length (now (all .exit)) ≡ length (now (all .entry)) ⌝ }
+    ensures { λ _. ⌜ length (now (keys .exit)) ≡ length (now (keys .entry)) ⌝ }
+    ensures { λ _. ⌜ length (now (rests .exit)) ≡ length (now (rests .entry)) ⌝ }
+    ensures { λ _. ⌜ length (now (hints .exit)) ≡ length (now (hints .entry)) ⌝ }
+    ensures { λ _. ⌜ length (now (ends .exit)) ≡ length (now (ends .entry)) ⌝ }
+    ensures { λ _. ⌜ length (now (grown .exit)) ≡ length (now (grown .entry)) ⌝ }
+{
+    let at = r * Game::RULE_STRIDE;
+    let q = byte_of(rules[at + 2]);
+    let b = byte_of(rules[at + 4]);
+    let c = byte_of(rules[at + 5]);
+    let mut more = [0u64; 16];
+    let lines = more_ends(
+        &mut more,
+        q,
+        rules[at + 3],
+        b,
+        c,
+        states,
+        numbers,
+        letters,
+        heads,
+        n,
+        all,
+        new,
+        count,
+        keys,
+        rests,
+        hints,
+        fresh,
+        alive,
+        raising,
+    );
+    take_in(ends, grown, r * n, &more, n);
+    lines
+}
+
+fn byte_of(byte: u8) -> usize
+    ensures { λ r. ⌜ r ≡ byte ⌝ }
+{
+    byte as usize
+}
 
 // What the ends of runs from state q over a word have more than before: of no letters, of b, or of b above c. How many lines there are.
 pub fn more_ends(
@@ -218,7 +298,7 @@ fn add_word(
 }
 
 // The lowest set of a word that is not empty.
-fn lowest_set(word: u64) -> usize
+pub fn lowest_set(word: u64) -> usize
     requires { ⌜ 0 < word ⌝ }
     ensures { λ r. ⌜ LowestOf 64 word r ⌝ }
 {
