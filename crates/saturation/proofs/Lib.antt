@@ -11,3 +11,4 @@ pub mod Giving
 pub mod Members
 pub mod Gathering
 pub mod Naming
+pub mod ClosingHeads

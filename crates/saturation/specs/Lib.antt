@@ -14,3 +14,4 @@ pub mod EntryRanks
 pub mod Taking
 pub mod Offers
 pub mod ElementsOf
+pub mod Closing
