@@ -1,5 +1,5 @@
 -- The walk of `Game::read` as one equation: reading the whole file is the walk from here with the game so far.
-use Prim.Native.Nat.{ℕ, zero, suc, _+_, _-_, _<_, _≤_}
+use Prim.Native.Nat.{ℕ, zero, suc, _+_, _*_, _-_, _<_, _≤_}
 use mathlib.Core.Path.{_≡_, refl, sym, ap, _∙_}
 use mathlib.Core.Logic.{_⊎_, inl, inr, ⊎-elim}
 use mathlib.Core.Bool.{Bool, true, false, cond}
@@ -10,37 +10,41 @@ use lib.Dec.{eqb, ltb}
 use borrow.Author.Tests.{lt-ltb, le-ltb, eq-eqb, ne-eqb, eqb-true}
 use types.Run.{OneOf, miss}
 use denote.Enum.Declared.{tagOf}
-use Rattle.game.specs.Limits.{maxStates, maxRules, maxTargets}
+use Rattle.game.specs.Limits.{maxControl, maxStates, maxLetters, maxRules, maxTargets, ruleStride, targetStride}
 use Rattle.game.specs.Game.{PushdownGame, emptyGame}
 use Rattle.game.specs.Outcome.{Outcome, done, refused}
 use Rattle.game.specs.Command.{whole, setOf, decoded, commandAt}
 use Rattle.game.specs.Questions.{ask, Room, add, everyHead, ending, taken, met, walk, reading}
-use Rattle.game.specs.Stored.{stored}
-use Rattle.game.specs.GoodGame.{SoFar}
+use Rattle.game.specs.Stored.{sizesOf}
+use Rattle.game.specs.Parts.{Parts, Fit, rules-room, targets-room}
+use Rattle.game.specs.Marks.{Filtered}
+use Rattle.game.specs.GoodGame.{SoFar, Ranged}
 use Rattle.game.specs.Reads.{so-far, limits, room}
-use Rattle.game.specs.declared.game.Game.{Game}
+use Rattle.game.specs.declared.game.Sizes.{Sizes}
 use Rattle.game.specs.declared.command.Command.{Command}
-use Rattle.game.specs.declared.command.Command.the-variants.{Sizes, Abelard, Final, Rule, Target, End}
+use Rattle.game.specs.declared.command.Command.the-variants.{Sizes as SizesAre, Abelard, Final, Rule, Target, End}
 use Rattle.game.specs.declared.command.Found.{Found}
 use Rattle.game.specs.declared.command.Found.the-variants.{Next, Missing, Unknown}
 use Rattle.game.proofs.command.Command as CommandIs
 use Rattle.game.proofs.command.Found as FoundIs
 
-pub record Going (file : List ℕ) (game : Game) (at : ℕ) : Type 0 where
+pub record Going (file : List ℕ) (sizes : Sizes) (rules targets marks : List ℕ) (at : ℕ) : Type 0 where
   pub so : PushdownGame
   pub turns : ℕ
-  pub held : game ≡ stored so
+  pub held : Parts so sizes rules targets
+  pub marked : Filtered so marks
   pub kept : SoFar so
   pub enough : length file ≤ at + turns
   pub same : reading file ≡ walk turns file at so
 
-pub start : (file : List ℕ) (game : Game) → 1 ≤ length file → length file ≤ 4096 → game ≡ stored emptyGame → Going file game 0
+pub start : (file : List ℕ) (sizes : Sizes) (rules targets marks : List ℕ) → 1 ≤ length file → length file ≤ 4096 → Parts emptyGame sizes rules targets → Filtered emptyGame marks → Going file sizes rules targets marks 0
 unfolding reading
-start file game low high e =
+start file sizes rules targets marks low high e f =
     record {
       so = emptyGame;
       turns = length file;
       held = e;
+      marked = f;
       kept = inl refl;
       enough = omega arith;
       same = rw (le-ltb (length file) 1 low, le-ltb 4096 (length file) high);
@@ -76,7 +80,7 @@ by-code : (code : ℕ) (file : List ℕ) (at : ℕ) → Forward at (decoded code
 unfolding decoded
 by-code code file at =
     let o : ℕ → ℕ = λ i. getD file (at + i) 0 in
-    either at (eqb code 1) _ _ (sized file at 3 (Sizes (o 1) (o 2) (o 3)))
+    either at (eqb code 1) _ _ (sized file at 3 (SizesAre (o 1) (o 2) (o 3)))
     (either at (eqb code 2) _ _ (sized file at 1 (Abelard (o 1)))
     (either at (eqb code 3) _ _ (sized file at 1 (Final (o 1)))
     (either at (eqb code 4) _ _ (sized file at 6 (Rule (o 1) (o 2) (o 3) (o 4) (o 5) (o 6)))
@@ -95,14 +99,18 @@ no-command size at g Unknown rest h = refl
 
 not-end : (size at : ℕ) (g : PushdownGame) (command : Command) (rest : Outcome PushdownGame) → OneOf (0 ∷ 1 ∷ 2 ∷ 3 ∷ 4 ∷ []) (tagOf CommandIs.the-type command) → taken size at g command rest ≡ rest
 unfolding taken
-not-end size at g (Sizes p s l) rest h = refl
+not-end size at g (SizesAre p s l) rest h = refl
 not-end size at g (Abelard p) rest h = refl
 not-end size at g (Final q) rest h = refl
 not-end size at g (Rule p a q k b c) rest h = refl
 not-end size at g (Target q a s) rest h = refl
 not-end size at g End rest h = absurd (miss (0 ∷ 1 ∷ 2 ∷ 3 ∷ 4 ∷ []) 5 tt h)
 
-module _ (file : List ℕ) (game : Game) (at : ℕ) (going : Going file game at) (inside : at < length file) where
+heads-in-range : (g : PushdownGame) → SoFar g → (g .control ≤ maxControl) × (g .letters ≤ maxLetters)
+heads-in-range g k =
+    ⊎-elim (λ (e : g ≡ emptyGame). rw e (omega arith, omega arith)) (λ (r : Ranged g). (r .controls, r .letters)) k
+
+module _ (file : List ℕ) (sizes : Sizes) (rules targets marks : List ℕ) (at : ℕ) (going : Going file sizes rules targets marks at) (inside : at < length file) where
   turn : (m : ℕ) × (going .turns ≡ suc m) × (walk (going .turns) file at (going .so) ≡ met (length file) at (going .so) (commandAt file at) (walk m file))
   turn = turned (going .turns) file at (going .so) inside (going .enough)
 
@@ -113,8 +121,34 @@ module _ (file : List ℕ) (game : Game) (at : ℕ) (going : Going file game at)
       ∙ turn .2
       ∙ rw (← e) (no-command (length file) at (going .so) found (walk (turn .0) file) h)
 
-  pub asks : (game .control ≤ maxStates) × (game .states ≤ maxStates) × (game .rulecount ≤ maxRules) × (game .targetcount ≤ maxTargets)
-  asks = rw (going .held) (limits (going .so) (going .kept))
+  bounds : (sizes .control ≤ maxStates) × (sizes .states ≤ maxStates) × (sizes .rulecount ≤ maxRules) × (sizes .targetcount ≤ maxTargets)
+  bounds = rw (going .held .sized) (limits (going .so) (going .kept))
+
+  -- what question 9 needs
+  pub few : (sizes .rulecount ≤ maxRules) × (sizes .control ≤ maxControl) × (sizes .letters ≤ maxLetters)
+  few =
+      let heads : (sizes .control ≤ maxControl) × (sizes .letters ≤ maxLetters) = rw (going .held .sized) (heads-in-range (going .so) (going .kept)) in
+      (bounds .2, heads .0, heads .1)
+
+  -- the areas are whole
+  pub rules-whole : length rules ≡ maxRules * ruleStride
+  rules-whole = rules-room (going .so) sizes rules targets (going .held) (limits (going .so) (going .kept) .2)
+
+  pub targets-whole : length targets ≡ maxTargets * targetStride
+  targets-whole = targets-room (going .so) sizes rules targets (going .held) (limits (going .so) (going .kept) .3)
+
+  pub asks : (sizes .control ≤ maxStates) × (sizes .states ≤ maxStates) × Fit sizes rules targets marks
+  asks = (
+    bounds .0,
+    bounds .1,
+    record {
+      few = bounds .2;
+      fewer = bounds .3;
+      ruled = omega (arith, bounds .2, rules-whole);
+      targeted = omega (arith, bounds .3, targets-whole);
+      filtered = going .marked .long;
+    },
+  )
 
   module _ (command : Command) (next : ℕ) (found : commandAt file at ≡ Next command next) where
     pub further : at < next
@@ -129,8 +163,8 @@ module _ (file : List ℕ) (game : Game) (at : ℕ) (going : Going file game at)
       all-passed : ask (going .so) command ≡ 0
       all-passed = sym e ∙ passed
 
-      pub fits : Room (game .rulecount) (game .targetcount) command
-      fits = rw (going .held) (room (going .so) (going .kept) command all-passed)
+      pub fits : Room (sizes .rulecount) (sizes .targetcount) command
+      fits = rw (going .held .sized) (room (going .so) (going .kept) command all-passed)
 
       on : reading file ≡ taken (length file) at (going .so) command (walk (turn .0) file next (add (going .so) command))
       unfolding met
@@ -142,12 +176,13 @@ module _ (file : List ℕ) (game : Game) (at : ℕ) (going : Going file game at)
       closes f = on ∙ rw f
 
       -- any other command
-      pub goes : (grown : Game) → grown ≡ stored (add (going .so) command) → OneOf (0 ∷ 1 ∷ 2 ∷ 3 ∷ 4 ∷ []) (tagOf CommandIs.the-type command) → Going file grown next
-      goes grown g h =
+      pub goes : (sizes′ : Sizes) (rules′ targets′ marks′ : List ℕ) → Parts (add (going .so) command) sizes′ rules′ targets′ → Filtered (add (going .so) command) marks′ → OneOf (0 ∷ 1 ∷ 2 ∷ 3 ∷ 4 ∷ []) (tagOf CommandIs.the-type command) → Going file sizes′ rules′ targets′ marks′ next
+      goes sizes′ rules′ targets′ marks′ g f h =
           record {
             so = add (going .so) command;
             turns = turn .0;
             held = g;
+            marked = f;
             kept = so-far (going .so) (going .kept) command all-passed;
             enough = omega (arith, further, going .enough, turn .1);
             same = on ∙ not-end (length file) at (going .so) command (walk (turn .0) file next (add (going .so) command)) h;
@@ -159,10 +194,10 @@ past zero file at g h = refl
 past (suc n) file at g h = rw (le-ltb at (length file) h)
 
 -- the file's end without FF
-pub runs-out : (file : List ℕ) (game : Game) (at : ℕ) → Going file game at → length file ≤ at → reading file ≡ refused 8 (length file)
-runs-out file game at going h = going .same ∙ past (going .turns) file at (going .so) h
+pub runs-out : (file : List ℕ) (sizes : Sizes) (rules targets marks : List ℕ) (at : ℕ) → Going file sizes rules targets marks at → length file ≤ at → reading file ≡ refused 8 (length file)
+runs-out file sizes rules targets marks at going h = going .same ∙ past (going .turns) file at (going .so) h
 
--- what the scan of the heads found, of the game that is held
-pub heads-found : (game : Game) (g : PushdownGame) → game ≡ stored g → (found answer : Bool) → found ≡ everyHead (game .control) (game .letters) (g .rules) → found ≡ answer → everyHead (g .control) (g .letters) (g .rules) ≡ answer
-heads-found game g e found answer p q =
-    sym (ap (λ (x : Game). everyHead (x .control) (x .letters) (g .rules)) e) ∙ sym p ∙ q
+-- what the scan of the heads found, of the game in parts
+pub heads-found : (sizes : Sizes) (g : PushdownGame) → sizes ≡ sizesOf g → (found answer : Bool) → found ≡ everyHead (sizes .control) (sizes .letters) (g .rules) → found ≡ answer → everyHead (g .control) (g .letters) (g .rules) ≡ answer
+heads-found sizes g e found answer p q =
+    sym (ap (λ (x : Sizes). everyHead (x .control) (x .letters) (g .rules)) e) ∙ sym p ∙ q

@@ -1,4 +1,4 @@
--- What storing one rule, or one target transition, more makes of the flat lists, and of the game that the code holds.
+-- What storing one rule, or one target transition, more makes of the flat lists, and of a game's parts.
 use Prim.Native.Nat.{ℕ, zero, suc, _+_, _*_, _-_, _<_, _≤_}
 use mathlib.Core.Path.{_≡_, refl, sym, ap, _∙_}
 use mathlib.Core.List.{List, [], _∷_, _++_, append-assoc}
@@ -7,10 +7,12 @@ use native.Mathlib.Nat.{suc-add}
 use native.Mathlib.Numerals.{add-one}
 use lib.ListN.{length, set, replicate, length-append}
 use Rattle.game.specs.Game.{Rule, Transition, PushdownGame}
-use Rattle.game.specs.Stored.{ruleBytes, targetWords, padded, stored}
+use Rattle.game.specs.Limits.{maxRules, maxTargets}
+use Rattle.game.specs.Stored.{ruleBytes, targetWords, padded}
+use Rattle.game.specs.Parts.{Parts, ruleArea, targetArea, ruleOf}
 use Rattle.game.specs.StoredLaws.{length-ruleBytes, length-targetWords}
 use Rattle.game.specs.Questions.{add}
-use Rattle.game.specs.declared.game.Game.{Game}
+use Rattle.game.specs.declared.game.Sizes.{Sizes}
 use Rattle.game.specs.declared.command.Command.the-variants.{Rule as RuleIs, Target}
 
 six-sets : (xs ys : List ℕ) (p a q k b c : ℕ) → set (set (set (set (set (set (xs ++ (0 ∷ 0 ∷ 0 ∷ 0 ∷ 0 ∷ 0 ∷ ys)) (length xs) p) (length xs + 1) a) (length xs + 2) q) (length xs + 3) k) (length xs + 4) b) (length xs + 5) c ≡ xs ++ (p ∷ a ∷ q ∷ k ∷ b ∷ c ∷ ys)
@@ -59,51 +61,51 @@ targets-grown ts t h =
     (three-sets (targetWords ts) _ (t .state) (t .letter) (t .set)
     ∙ sym (append-assoc (targetWords ts) (t .state ∷ t .letter ∷ t .set ∷ []) _))
 
--- `Game::with_rule` on the game that is held
-pub with-rule : (g : PushdownGame) (p a q k b c : ℕ) → length (g .rules) < 256 → _≡_ {A = Game} (record {
-  control = g .control;
-  states = g .states;
-  letters = g .letters;
-  abelard = g .abelard;
-  finals = g .finals;
-  rulecount = length (g .rules) + 1;
-  rules = set (set (set (set (set (set (padded 1536 (ruleBytes (g .rules))) (length (g .rules) * 6) p) (length (g .rules) * 6 + 1) a) (length (g .rules) * 6 + 2) q) (length (g .rules) * 6 + 3) k) (length (g .rules) * 6 + 4) b) (length (g .rules) * 6 + 5) c;
-  targetcount = length (g .targets);
-  targets = padded 768 (targetWords (g .targets));
-}) (stored (add g (RuleIs p a q k b c)))
-unfolding add
-with-rule g p a q k b c h = λ i. record {
-  control = g .control;
-  states = g .states;
-  letters = g .letters;
-  abelard = g .abelard;
-  finals = g .finals;
-  rulecount = sym (length-append (g .rules) (record { number = length (g .rules); from = p; top = a; to = q; count = k; above = b; below = c } ∷ [])) i;
-  rules = rules-grown (g .rules) (record { number = length (g .rules); from = p; top = a; to = q; count = k; above = b; below = c }) h i;
-  targetcount = length (g .targets);
-  targets = padded 768 (targetWords (g .targets));
-}
+-- a rule stored after those of a list
+pub stores-rule : (rs : List Rule) (n : ℕ) (area : List ℕ) (p a q k b c : ℕ) → n < maxRules → n ≡ length rs → area ≡ ruleArea rs → set (set (set (set (set (set area (n * 6) p) (n * 6 + 1) a) (n * 6 + 2) q) (n * 6 + 3) k) (n * 6 + 4) b) (n * 6 + 5) c ≡ ruleArea (rs ++ (ruleOf n p a q k b c ∷ []))
+stores-rule rs n area p a q k b c h e s = rw (s, e) (rules-grown rs (ruleOf (length rs) p a q k b c) (rw e at h))
 
-pub with-target : (g : PushdownGame) (q a s : ℕ) → length (g .targets) < 256 → _≡_ {A = Game} (record {
-  control = g .control;
-  states = g .states;
-  letters = g .letters;
-  abelard = g .abelard;
-  finals = g .finals;
-  rulecount = length (g .rules);
-  rules = padded 1536 (ruleBytes (g .rules));
-  targetcount = length (g .targets) + 1;
-  targets = set (set (set (padded 768 (targetWords (g .targets))) (length (g .targets) * 3) q) (length (g .targets) * 3 + 1) a) (length (g .targets) * 3 + 2) s;
-}) (stored (add g (Target q a s)))
-unfolding add
-with-target g q a s h = λ i. record {
-  control = g .control;
-  states = g .states;
-  letters = g .letters;
-  abelard = g .abelard;
-  finals = g .finals;
-  rulecount = length (g .rules);
-  rules = padded 1536 (ruleBytes (g .rules));
-  targetcount = sym (length-append (g .targets) (record { state = q; letter = a; set = s } ∷ [])) i;
-  targets = targets-grown (g .targets) (record { state = q; letter = a; set = s }) h i;
-}
+-- a target transition stored after those of a list
+pub stores-target : (ts : List Transition) (n : ℕ) (area : List ℕ) (q a s : ℕ) → n < maxTargets → n ≡ length ts → area ≡ targetArea ts → set (set (set area (n * 3) q) (n * 3 + 1) a) (n * 3 + 2) s ≡ targetArea (ts ++ (record { state = q; letter = a; set = s } ∷ []))
+stores-target ts n area q a s h e f = rw (f, e) (targets-grown ts (record { state = q; letter = a; set = s }) (rw e at h))
+
+module _ (g : PushdownGame) (sizes : Sizes) (rules targets : List ℕ) (parts : Parts g sizes rules targets) where
+  pub counted-rules : sizes .rulecount ≡ length (g .rules)
+  counted-rules = ap (λ (x : Sizes). x .rulecount) (parts .sized)
+
+  pub counted-targets : sizes .targetcount ≡ length (g .targets)
+  counted-targets = ap (λ (x : Sizes). x .targetcount) (parts .sized)
+
+  -- the parts with one rule more
+  pub with-rule : (p a q k b c n : ℕ) (area : List ℕ) → n ≡ sizes .rulecount + 1 → area ≡ ruleArea (g .rules ++ (ruleOf (sizes .rulecount) p a q k b c ∷ [])) → Parts (add g (RuleIs p a q k b c)) (record {
+    control = sizes .control;
+    states = sizes .states;
+    letters = sizes .letters;
+    abelard = sizes .abelard;
+    finals = sizes .finals;
+    rulecount = n;
+    targetcount = sizes .targetcount;
+  }) area targets
+  unfolding add
+  with-rule p a q k b c n area e s =
+      let more = sym (length-append (g .rules) (ruleOf (length (g .rules)) p a q k b c ∷ [])) in
+      record {
+        sized = rw (e, parts .sized, ← more) refl;
+        ruled = s ∙ ap (λ (i : ℕ). ruleArea (g .rules ++ (ruleOf i p a q k b c ∷ []))) counted-rules;
+        targeted = parts .targeted;
+      }
+
+  -- the parts with one target transition more
+  pub with-target : (q a s n : ℕ) (area : List ℕ) → n ≡ sizes .targetcount + 1 → area ≡ targetArea (g .targets ++ (record { state = q; letter = a; set = s } ∷ [])) → Parts (add g (Target q a s)) (record {
+    control = sizes .control;
+    states = sizes .states;
+    letters = sizes .letters;
+    abelard = sizes .abelard;
+    finals = sizes .finals;
+    rulecount = sizes .rulecount;
+    targetcount = n;
+  }) rules area
+  unfolding add
+  with-target q a s n area e f =
+      let more = sym (length-append (g .targets) (record { state = q; letter = a; set = s } ∷ [])) in
+      record { sized = rw (e, parts .sized, ← more) refl; ruled = parts .ruled; targeted = f }

@@ -2,7 +2,9 @@ pub mod Asked
 pub mod Carried
 pub mod Commands
 pub mod Decoded
+pub mod Filtering
 pub mod Going
 pub mod Grown
+pub mod Heads
 pub mod Stack
 pub mod Tests

@@ -1,11 +1,8 @@
 -- Laws of tests joined by `and`, and of a shifted 1.
-use Prim.Native.Nat.{ℕ, _*_, _%_, _^_, _<_, _≤_}
+use Prim.Native.Nat.{ℕ, _*_, _%_, _^_, _<_}
 use mathlib.Core.Path.{_≡_, refl, sym, _∙_}
 use mathlib.Core.Bool.{Bool, true, false, _&&_, not}
-use mathlib.Core.List.{List, map}
-use lib.ListN.{length, length-map}
 use native.Mathlib.Nat.{one-mul, mod-eq-of-lt}
-use native.Mathlib.Omega.{arith}
 use lib.Pow.{pow-lt}
 
 -- both hold
@@ -33,10 +30,3 @@ shifted-one s h = rw one-mul (mod-eq-of-lt (pow-lt h))
 -- 1 shifted left within 32 bits
 pub shifted-one-word : (s : ℕ) → s < 32 → 1 * 2 ^ s % 2 ^ 32 ≡ 2 ^ s
 shifted-one-word s h = rw one-mul (mod-eq-of-lt (pow-lt h))
-
--- at most 256 rules of 6 bytes, and target transitions of 3 words, fit their arrays
-pub rules-fit : (n : ℕ) (xs : List ℕ) → length (map (λ (v : ℕ). v) xs) ≡ 1536 → n ≤ 256 → (n * 6 ≤ length xs) × (n ≤ 256)
-rules-fit n xs e h = omega (arith, length-map xs (λ (v : ℕ). v))
-
-pub targets-fit : (n : ℕ) (xs : List ℕ) → length (map (λ (v : ℕ). v) xs) ≡ 768 → n ≤ 256 → (n * 3 ≤ length xs) × (n ≤ 256)
-targets-fit n xs e h = omega (arith, length-map xs (λ (v : ℕ). v))

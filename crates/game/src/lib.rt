@@ -3,6 +3,7 @@
 //
 // It leaves out tables, judging, moving and solving, which stand in crates above this one.
 mod command;
+mod filter;
 mod game;
 mod position;
 mod question;

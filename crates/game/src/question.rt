@@ -1,15 +1,23 @@
 // Questions 3 to 7, put to one command after the game so far, and question 9.
 use crate::command::Command;
+use crate::filter::head_slot;
+use crate::filter::is_marked;
+use crate::filter::mark;
+use crate::filter::rule_word;
+use crate::filter::slot_of;
 use crate::game::Game;
+use crate::game::Sizes;
 ghost use mathlib.Core.Path.{_≡_};
 ghost use mathlib.Core.Bool.{not, true};
 ghost use mathlib.Core.List.{List, _++_};
 ghost use Prim.Native.Nat.{ℕ, _<_, _≤_, _+_, _*_};
 ghost use lib.ListN.{length, getD};
-ghost use Rattle.game.specs.Limits.{maxStates, maxRules, maxTargets, ruleStride, targetStride};
+ghost use Rattle.game.specs.Limits.{maxControl, maxStates, maxLetters, maxRules, maxTargets, ruleStride, targetStride};
 ghost use Rattle.game.specs.Sets.{has, within};
 ghost use Rattle.game.specs.Game.{PushdownGame, Rule, Transition, wordOf, ofHead};
-ghost use Rattle.game.specs.Stored.{stored, ruleBytes, ruleAt, targetWords, targetAt};
+ghost use Rattle.game.specs.Stored.{ruleBytes, ruleAt, targetWords, targetAt};
+ghost use Rattle.game.specs.Parts.{Parts, Fit};
+ghost use Rattle.game.specs.Marks.{Filtered, HeadMarks, Headed, lettersMarked};
 ghost use Rattle.game.specs.Questions.{
   inOrder,
   sizesInRange,
@@ -28,28 +36,35 @@ ghost use Rattle.game.specs.Questions.{
   hasRoom,
   ask,
   any,
-  everyLetter,
+  allBelow,
   everyHead,
 };
 
 // Questions 3 to 7: 0, or the number of the first that is answered no.
-pub fn ask_command(game: Game, command: Command) -> u8
-    requires { ⌜ (game .control ≤ maxStates) × (game .states ≤ maxStates) × (game .rulecount ≤ maxRules) × (game .targetcount ≤ maxTargets) ⌝ }
-    ensures { λ r. ⌜ ((g : PushdownGame) → game ≡ stored g → r ≡ ask g command) ⌝ }
+pub fn ask_command(
+    sizes: Sizes,
+    rules: &[u8],
+    targets: &[u32],
+    marks: &[u64],
+    command: Command,
+) -> u8
+    requires { ⌜ (sizes .control ≤ maxStates) × (sizes .states ≤ maxStates) × Fit sizes (now rules) (now targets) (now marks) ⌝ }
+    ensures { λ r. ⌜ ((g : PushdownGame) → Parts g sizes (now (rules .entry)) (now (targets .entry)) → Filtered g (now (marks .entry))
+        → r ≡ ask g command) ⌝ }
 {
-    if !is_in_order(game.states, command) {
+    if !is_in_order(sizes.states, command) {
         return 3;
     }
-    if !is_in_range(game.control, game.states, game.letters, command) {
+    if !is_in_range(sizes.control, sizes.states, sizes.letters, command) {
         return 4;
     }
     if !is_bottom_kept(command) {
         return 5;
     }
-    if !is_new(game, command) {
+    if !is_new(sizes, rules, targets, marks, command) {
         return 6;
     }
-    if !is_room(game.rulecount, game.targetcount, command) {
+    if !is_room(sizes.rulecount, sizes.targetcount, command) {
         return 7;
     }
     0
@@ -269,13 +284,14 @@ fn is_bottom_absent(count: u8, above: u8, below: u8) -> bool
 }
 
 // 6. Is the statement new?
-fn is_new(game: Game, command: Command) -> bool
-    requires { ⌜ (game .rulecount ≤ maxRules) × (game .targetcount ≤ maxTargets) ⌝ }
-    ensures { λ r. ⌜ ((g : PushdownGame) → game ≡ stored g → r ≡ isNew g command) ⌝ }
+fn is_new(sizes: Sizes, rules: &[u8], targets: &[u32], marks: &[u64], command: Command) -> bool
+    requires { ⌜ Fit sizes (now rules) (now targets) (now marks) ⌝ }
+    ensures { λ r. ⌜ ((g : PushdownGame) → Parts g sizes (now (rules .entry)) (now (targets .entry)) → Filtered g (now (marks .entry))
+        → r ≡ isNew g command) ⌝ }
 {
     match command {
-        Command::Abelard { state } => !has_state(game.abelard, state),
-        Command::Final { state } => !has_state(game.finals, state),
+        Command::Abelard { state } => !has_state(sizes.abelard, state),
+        Command::Final { state } => !has_state(sizes.finals, state),
         Command::Rule {
             from,
             top,
@@ -284,12 +300,19 @@ fn is_new(game: Game, command: Command) -> bool
             above,
             below,
         } => {
-            let rules = game.rules;
-            !is_rule_stored(&rules, game.rulecount, from, top, to, count, above, below)
+            if !is_marked(
+                marks,
+                slot_of(from, top, rule_word(to, count, above, below)),
+            ) {
+                return true;
+            }
+            !is_rule_stored(rules, sizes.rulecount, from, top, to, count, above, below)
         }
         Command::Target { state, letter, set } => {
-            let targets = game.targets;
-            !is_target_stored(&targets, game.targetcount, state, letter, set)
+            if !is_marked(marks, slot_of(state, letter, set)) {
+                return true;
+            }
+            !is_target_stored(targets, sizes.targetcount, state, letter, set)
         }
         _ => true,
     }
@@ -421,15 +444,50 @@ fn is_room(rules: usize, targets: usize, command: Command) -> bool
     }
 }
 
-// 9. Has every head a rule?
+// 9. Has every head a rule? The heads of the rules are marked in one pass, and then every head is looked for.
 pub fn is_every_head(rules: &[u8], stored: usize, control: u8, letters: u8) -> bool
-    requires { ⌜ (stored * ruleStride ≤ length (now rules)) × (stored ≤ maxRules) ⌝ }
+    requires { ⌜ (stored * ruleStride ≤ length (now rules)) × (stored ≤ maxRules) × (control ≤ maxControl) × (letters ≤ maxLetters) ⌝ }
     ensures { λ r. ⌜ ((rs : List Rule) (t : List ℕ) → now (rules .entry) ≡ ruleBytes rs ++ t → stored ≡ length rs
         → r ≡ everyHead control letters rs) ⌝ }
 {
+    let mut heads = [0u64; Game::MAX_CONTROL as usize];
+    mark_heads(&mut heads, rules, stored);
+    are_heads_marked(&heads, control, letters)
+}
+
+// The heads of the first `stored` rules marked; the bit of a head is the letter's in the word of its control state.
+fn mark_heads(heads: &mut [u64], rules: &[u8], stored: usize)
+    requires { ⌜ (stored * ruleStride ≤ length (now rules)) × (stored ≤ maxRules) × (length (now heads) ≡ maxControl) ⌝ }
+    ensures { λ _. ⌜ (Headed (now (rules .entry)) 0 (now (heads .entry)) → Headed (now (rules .entry)) stored (now (heads .exit))) ⌝ }
+{
+    let mut i = 0;
+    while i < stored {
+        let at = i * Game::RULE_STRIDE;
+        mark_head(heads, rules[at], rules[at + 1]);
+        i += 1;
+    }
+}
+
+fn mark_head(heads: &mut [u64], from: u8, top: u8)
+    requires { ⌜ length (now heads) ≡ maxControl ⌝ }
+    ensures { λ _. ⌜ HeadMarks (now (heads .entry)) from top (now (heads .exit)) ⌝ }
+{
+    if Game::MAX_CONTROL <= from {
+        return;
+    }
+    if Game::MAX_LETTERS <= top {
+        return;
+    }
+    mark(heads, head_slot(from, top));
+}
+
+fn are_heads_marked(heads: &[u64], control: u8, letters: u8) -> bool
+    requires { ⌜ (length (now heads) ≡ maxControl) × (control ≤ maxControl) × (letters ≤ maxLetters) ⌝ }
+    ensures { λ r. ⌜ r ≡ allBelow control (lettersMarked (now (heads .entry)) letters) ⌝ }
+{
     let mut p = 0;
     while p < control {
-        if !is_every_letter(rules, stored, p, letters) {
+        if !is_every_letter(heads, p, letters) {
             return false;
         }
         p += 1;
@@ -437,35 +495,19 @@ pub fn is_every_head(rules: &[u8], stored: usize, control: u8, letters: u8) -> b
     true
 }
 
-fn is_every_letter(rules: &[u8], stored: usize, p: u8, letters: u8) -> bool
-    requires { ⌜ (stored * ruleStride ≤ length (now rules)) × (stored ≤ maxRules) ⌝ }
-    ensures { λ r. ⌜ ((rs : List Rule) (t : List ℕ) → now (rules .entry) ≡ ruleBytes rs ++ t → stored ≡ length rs
-        → r ≡ everyLetter letters p rs) ⌝ }
+// Control state p is marked with every letter.
+fn is_every_letter(heads: &[u64], p: u8, letters: u8) -> bool
+    requires { ⌜ (length (now heads) ≡ maxControl) × (p < maxControl) × (letters ≤ maxLetters) ⌝ }
+    ensures { λ r. ⌜ r ≡ lettersMarked (now (heads .entry)) letters p ⌝ }
 {
     let mut a = 0;
     while a < letters {
-        if !is_head(rules, stored, p, a) {
+        if !is_marked(heads, head_slot(p, a)) {
             return false;
         }
         a += 1;
     }
     true
-}
-
-// The head (p, a) has a rule.
-fn is_head(rules: &[u8], stored: usize, p: u8, a: u8) -> bool
-    requires { ⌜ (stored * ruleStride ≤ length (now rules)) × (stored ≤ maxRules) ⌝ }
-    ensures { λ r. ⌜ ((rs : List Rule) (t : List ℕ) → now (rules .entry) ≡ ruleBytes rs ++ t → stored ≡ length rs
-        → r ≡ any (ofHead p a) rs) ⌝ }
-{
-    let mut i = 0;
-    while i < stored {
-        if is_rule_of(rules, i * Game::RULE_STRIDE, p, a) {
-            return true;
-        }
-        i += 1;
-    }
-    false
 }
 
 // The rule stored at an offset is one of the head (p, a).

@@ -1,61 +1,30 @@
--- Every control state below p has a rule on every letter. At the first without one the answer is no; at P every head has one.
--- The measure is how many control states are left. Assumes what the contract requires.
-use Prim.Native.Nat.{ℕ, _≤_, _<_, _*_, _-_}
-use mathlib.Core.Path.{_≡_, refl, sym, _∙_}
-use mathlib.Core.Bool.{true, false}
-use mathlib.Core.List.{List, _++_}
-use native.Mathlib.Omega.{arith}
-use borrow.Author.Count.{below-more}
-use borrow.Author.Tests.{not-true, not-false}
-use lib.ListN.{length}
-use Rattle.game.specs.Game.{Rule}
-use Rattle.game.specs.Stored.{ruleBytes}
-use Rattle.game.specs.Questions.{everyLetter, everyHead}
-use Rattle.game.specs.ListLaws.{at-allBelow, not-allBelow}
+use mathlib.Core.Path.{_∙_}
+use Rattle.game.proofs.Heads.{none-headed, heads-told}
+use borrow.Author.Needs.{needs}
 use Rattle.game.proofs.question.is_every_head.Statement.{statement}
 use Rattle.game.proofs.question.is_every_head.Tie as tie
 
-abbrev Inv-loop : tie.InvT-loop
-Inv-loop rules stored control letters p₀ p =
-    (p ≤ control)
-    × ((rs : List Rule) (t : List ℕ) → rules ≡ ruleBytes rs ++ t → stored ≡ length rs → (k : ℕ) → k < p → everyLetter letters k rs ≡ true)
+slice-aggregate-mark-heads : tie.Need-slice-aggregate-mark-heads
+slice-aggregate-mark-heads c = search needs
 
-abbrev μ-loop : tie.MeasureT-loop
-μ-loop rules stored control letters p₀ p = control - p
+mark-heads-requires : tie.Need-mark-heads-requires
+mark-heads-requires c κs = search needs
 
-loop-holds : tie.Need-loop-holds Inv-loop μ-loop
-loop-holds c = (omega arith, λ rs t e n k h. absurd (omega arith))
+slice-aggregate-are-heads-marked : tie.Need-slice-aggregate-are-heads-marked
+slice-aggregate-are-heads-marked c = search needs
 
-is-every-letter-requires : tie.Need-is-every-letter-requires Inv-loop μ-loop
-is-every-letter-requires c κs = c .before .before .before .pre
+are-heads-marked-requires : tie.Need-are-heads-marked-requires
+are-heads-marked-requires c κs = search needs
 
-returns : tie.Need-returns Inv-loop μ-loop
-unfolding everyHead
-returns c = λ rs t e n. sym (not-allBelow _ _ (c .before .before .before .loop .p) (c .before .before .loop-test .taken) (sym (c .before .is-every-letter .ensures rs t e n) ∙ not-true _ (c .if1 .taken)))
-
-add-p : tie.Need-add-p Inv-loop μ-loop
-add-p c = omega arith
-
-loop-less : tie.Need-loop-less Inv-loop μ-loop
-loop-less c = omega arith
-
-loop-again : tie.Need-loop-again Inv-loop μ-loop
-loop-again c = (omega arith, λ rs t e n. below-more _ _ (c .before .before .before .loop .inv .1 rs t e n) (sym (c .before .is-every-letter .ensures rs t e n) ∙ not-false _ (c .if1 .left)))
-
-returns-2 : tie.Need-returns-2 Inv-loop μ-loop
-unfolding everyHead
-returns-2 c = λ rs t e n. sym (at-allBelow _ _ (λ k h. c .before .loop .inv .1 rs t e n k (omega arith)))
+returns : tie.Need-returns
+returns c = λ rs t e n. c .are-heads-marked .ensures ∙ heads-told _ _ _ _ _ (c .before .before .before .mark-heads .ensures (none-headed _)) (c .before .before .before .before .before .before .pre .2) (c .before .before .before .before .before .before .pre .3) rs t e n
 
 pub is-every-head-spec : {M : Type 1} → statement M
 is-every-head-spec =
     tie.close
     (tie.spec
-    Inv-loop
-    μ-loop
-    loop-holds
-    is-every-letter-requires
-    returns
-    add-p
-    loop-less
-    loop-again
-    returns-2)
+    slice-aggregate-mark-heads
+    mark-heads-requires
+    slice-aggregate-are-heads-marked
+    are-heads-marked-requires
+    returns)

@@ -2,9 +2,9 @@ use mathlib.Core.Path.{refl, sym, ap, _∙_}
 use borrow.Author.Tests.{eq-eqb, ne-eqb, not-true, not-false}
 use Rattle.game.specs.Questions.{ending}
 use Rattle.game.specs.Stored.{padded}
-use Rattle.game.specs.declared.game.Game.{Game}
+use Rattle.game.specs.Parts.{whole}
+use Rattle.game.specs.declared.game.Sizes.{Sizes}
 use Rattle.game.proofs.Going.{heads-found}
-use Rattle.game.proofs.Tests.{rules-fit}
 use borrow.Author.Needs.{needs}
 use Rattle.game.proofs.reading.close.Statement.{statement}
 use Rattle.game.proofs.reading.close.Tie as tie
@@ -23,18 +23,18 @@ slice-aggregate-is-every-head : tie.Need-slice-aggregate-is-every-head
 slice-aggregate-is-every-head c = search needs
 
 is-every-head-requires : tie.Need-is-every-head-requires
-is-every-head-requires c κs = rules-fit _ (c .before .before .before .args .game .rules) (c .before .before .before .good .1 .1 .0 .1 .1 .1 .1 .1 .1 .1 .1 .0 .1 .0 .1) (c .before .before .before .pre .1)
+is-every-head-requires c κs = search needs
 
 refuse-requires-2 : tie.Need-refuse-requires-2
 refuse-requires-2 c κs = search needs
 
 returns-2 : tie.Need-returns-2
 unfolding ending padded
-returns-2 c = λ g e. rw (eq-eqb _ _ (c .before .before .before .before .before .if1 .left), heads-found _ g e _ _ (c .before .before .is-every-head .ensures (g .rules) _ (ap (λ (x : Game). x .rules) e) (ap (λ (x : Game). x .rulecount) e)) (not-true _ (c .before .if2 .taken))) (c .refuse2 .ensures)
+returns-2 c = λ g e. rw (eq-eqb _ _ (c .before .before .before .before .if1 .left), heads-found _ g (e .sized) _ _ (c .before .before .is-every-head .ensures (g .rules) _ (e .ruled) (ap (λ (x : Sizes). x .rulecount) (e .sized))) (not-true _ (c .before .if2 .taken))) (c .refuse2 .ensures)
 
 returns-3 : tie.Need-returns-3
 unfolding ending padded
-returns-3 c = λ g e. rw (eq-eqb _ _ (c .before .before .before .before .if1 .left), heads-found _ g e _ _ (c .before .is-every-head .ensures (g .rules) _ (ap (λ (x : Game). x .rules) e) (ap (λ (x : Game). x .rulecount) e)) (not-false _ (c .if2 .left))) (record { answers = refl; hands = e })
+returns-3 c = λ g e. rw (eq-eqb _ _ (c .before .before .before .if1 .left), heads-found _ g (e .sized) _ _ (c .before .is-every-head .ensures (g .rules) _ (e .ruled) (ap (λ (x : Sizes). x .rulecount) (e .sized))) (not-false _ (c .if2 .left))) (record { answers = refl; hands = whole g _ _ _ e })
 
 pub close-spec : {M : Type 1} → statement M
 close-spec =
