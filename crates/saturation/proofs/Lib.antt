@@ -12,3 +12,13 @@ pub mod Members
 pub mod Gathering
 pub mod Naming
 pub mod ClosingHeads
+pub mod RuleTurns
+pub mod RuleLoop
+pub mod Marking
+pub mod Starting
+pub mod RoundTurns
+pub mod HeadNumbers
+pub mod HeadTurns
+pub mod Links
+pub mod AbelardHeads
+pub mod QuietRules

@@ -15,3 +15,12 @@ pub mod Taking
 pub mod Offers
 pub mod ElementsOf
 pub mod Closing
+pub mod ClosingRows
+pub mod Steps
+pub mod Ground
+pub mod RuleLaws
+pub mod Marks
+pub mod RoundZero
+pub mod Resting
+pub mod RuleLinks
+pub mod HeadSteps

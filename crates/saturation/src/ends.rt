@@ -1,6 +1,8 @@
 // The ends of the runs of a rule, and what they have more than before.
 use crate::lines::family_of;
+use family::clear_at;
 use family::copy_at;
+use family::is_empty_at;
 use family::join_at;
 use family::put_at;
 use family::subsets_at;
@@ -21,7 +23,7 @@ ghost use Rattle.family.specs.Family.{Elsewhere};
 ghost use Rattle.table.specs.Table.{Entry};
 ghost use Rattle.family.specs.Masks.{Raising};
 ghost use Rattle.saturation.specs.Pool.{Fits, Pool, Grew, Is, Kept};
-ghost use Rattle.saturation.specs.Ending.{Sum, OfWord, Picked, Choice, Sets, Masked, Growth, Listed, Ends, Before, NoSets, RuleFits, RuleEnds, RuleBefore};
+ghost use Rattle.saturation.specs.Ending.{Sum, OfWord, Picked, Choice, Sets, Masked, Growth, Listed, Ends, Before, NoSets, RuleFits, RuleEnds, RuleBefore, Quiet};
 
 // What the ends of rule r's runs have more: put into its ends, and left in `grown`. How many lines there are.
 pub fn renew_rule(
@@ -90,6 +92,91 @@ pub fn renew_rule(
     );
     take_in(ends, grown, r * n, &more, n);
     lines
+}
+
+// The same, and nothing but what is left in `grown` is touched where the heads of the rule's word have nothing new.
+pub fn take_ends(
+    r: usize,
+    rules: &[u8],
+    states: &[u8],
+    numbers: &[usize],
+    letters: usize,
+    heads: usize,
+    n: usize,
+    all: &mut [u64],
+    new: &[u64],
+    count: usize,
+    keys: &mut [u32],
+    rests: &mut [u32],
+    hints: &mut [u32],
+    fresh: &[usize],
+    alive: &[usize],
+    ends: &mut [u64],
+    grown: &mut [u64],
+    raising: &[u64],
+) -> usize
+    requires { ⌜ Fits letters heads n (now states) (now all) (now keys) (now rests) (now hints) × (letters ≤ 64)
+        × (count ≤ length (now keys)) × (512 ≤ length (now raising)) × (length (now new) ≡ length (now all)) × Masked (now numbers) (now fresh) (now alive)
+        × RuleFits (now rules) letters heads r × (r < 256) × (r * n + n ≤ length (now ends)) × (r * n + n ≤ length (now grown)) ⌝ }
+    ensures { λ x. ⌜ ((el : List ℕ) (g : PushdownGame) (old es : List Entry) (i : ℕ) (rule : Rule) → Raising (now (raising .entry)) → letters ≡ g .letters
+        → rule ≡ ruleAt (now (rules .entry)) (r * 6) (rule .number) → GoodRule (g .control) (g .letters) rule → g .control ≤ g .states → Kept old es
+        → Growth el g n old es i (now (numbers .entry)) (now (new .entry)) (now (fresh .entry)) (now (alive .entry)) → (rule .count ≡ 0 → Listed el (rule .to))
+        → Pool el g n heads (now (states .entry)) es (now (all .entry)) (now (keys .entry)) (now (rests .entry)) count
+        → Is el n (now (ends .entry)) (r * n) (RuleBefore g old i rule)
+        → Pool el g n heads (now (states .entry)) es (now (all .exit)) (now (keys .exit)) (now (rests .exit)) x
+        × Is el n (now (ends .exit)) (r * n) (RuleEnds g es rule) × Grew el n (now (grown .exit)) (r * n) (RuleEnds g es rule) (RuleBefore g old i rule)) ⌝ }
+    ensures { λ x. ⌜ (x ≤ length (now (keys .entry))) × Elsewhere (r * n) n (now (ends .entry)) (now (ends .exit)) × Elsewhere (r * n) n (now (grown .entry)) (now (grown .exit)) ⌝ }
+    ensures { λ _. ⌜ length (now (all .exit)) ≡ length (now (all .entry)) ⌝ }
+    ensures { λ _. ⌜ length (now (keys .exit)) ≡ length (now (keys .entry)) ⌝ }
+    ensures { λ _. ⌜ length (now (rests .exit)) ≡ length (now (rests .entry)) ⌝ }
+    ensures { λ _. ⌜ length (now (hints .exit)) ≡ length (now (hints .entry)) ⌝ }
+    ensures { λ _. ⌜ length (now (ends .exit)) ≡ length (now (ends .entry)) ⌝ }
+    ensures { λ _. ⌜ length (now (grown .exit)) ≡ length (now (grown .entry)) ⌝ }
+{
+    let at = r * Game::RULE_STRIDE;
+    let head = byte_of(rules[at + 2]) * letters + byte_of(rules[at + 4]);
+    let c = byte_of(rules[at + 5]);
+    if is_quiet(rules[at + 3], head, n, new, fresh[c]) {
+        clear_at(grown, r * n, n);
+        return count;
+    }
+    renew_rule(
+        r,
+        rules,
+        states,
+        numbers,
+        letters,
+        heads,
+        n,
+        all,
+        new,
+        count,
+        keys,
+        rests,
+        hints,
+        fresh,
+        alive,
+        ends,
+        grown,
+        raising,
+    )
+}
+
+// A word has one letter or two, its first head has no new transition, and no element has one on a second letter.
+fn is_quiet(written: u8, head: usize, n: usize, new: &[u64], fresh: usize) -> bool
+    requires { ⌜ (head ≤ 4096) × (n ≤ 16) × (head * n + n ≤ length (now new)) ⌝ }
+    ensures { λ r. ⌜ (r ≡ true → Quiet written head n (now (new .entry)) fresh) ⌝ }
+{
+    if written == 0 {
+        return false;
+    }
+    if !is_empty_at(new, head * n, n) {
+        return false;
+    }
+    if written == 1 {
+        return true;
+    }
+    fresh == 0
 }
 
 fn byte_of(byte: u8) -> usize

@@ -124,7 +124,7 @@ fn place_of(size: usize, x: usize, c: usize) -> usize
     requires { ⌜ (0 < size) × (x < 1024) × (c < 64) ⌝ }
     ensures { λ r. ⌜ r < size ⌝ }
 {
-    (x + 64 * c) % size
+    ((x + 1024 * c) * 40503 / 64) % size
 }
 
 // A line is that of a set and a letter.

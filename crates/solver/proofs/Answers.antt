@@ -1,12 +1,14 @@
 -- The questions before the rounds: a file that is refused, areas whose lengths are refused, and what is known once both are passed.
-use Prim.Native.Nat.{ℕ, _*_, _/_}
+use Prim.Native.Nat.{ℕ, _*_, _/_, _%_, _≤_}
 use native.Mathlib.Omega.{arith}
 use mathlib.Core.Path.{_≡_, sym, ap, _∙_}
 use mathlib.Core.Bool.{true, false, _&&_}
 use mathlib.Core.List.{List, [], _∷_}
 use lib.ListN.{length, replicate, length-replicate}
-use lib.Dec.{eqb}
-use borrow.Author.Tests.{eq-eqb, ne-eqb}
+use lib.Dec.{eqb, leb}
+use borrow.Author.Tests.{eq-eqb, ne-eqb, leb-true}
+use Rattle.game.specs.Limits.{maxEntries}
+use Rattle.game.specs.ListLaws.{both}
 use types.Run.{OneOf, miss}
 use denote.Enum.Declared.{tagOf}
 use Rattle.game.proofs.game.Answer as AnswerIs
@@ -78,6 +80,14 @@ module _ (file : List ℕ) (t w : ℕ) {table work : List ℕ} (zeros : table �
         whole-entries =
             let many : t ≡ t / entryStride * 3 = in-entries t form ∙ omega arith in
             zeros ∙ ap (λ (k : ℕ). replicate k 0) many
+
+-- a length in form is that of at most 2,048 entries
+pub short : (n : ℕ) → lengthInForm n ≡ true → n ≤ 6144
+unfolding lengthInForm
+short n h =
+    let p = both (leb entryStride n && leb n (entryStride * maxEntries)) (eqb (n % entryStride) 0) h in
+    let q = both (leb entryStride n) (leb n (entryStride * maxEntries)) (p .0) in
+    leb-true n 6144 (q .1)
 
 -- what is lent to the rounds is the game that was read
 pub given : (game : Game) (g : PushdownGame) → game ≡ stored g → Good g → (sizes : Sizes) → sizes ≡ heldSizes game

@@ -1,3 +1,6 @@
 pub mod Answers
 pub mod RoundsTaken
 pub mod Targets
+pub mod RoundOrder
+pub mod RestTurns
+pub mod Beginnings

@@ -1,3 +1,4 @@
 pub mod Leaving
 pub mod Given
 pub mod Demands
+pub mod Rooms

@@ -1,9 +1,10 @@
 // The solver: from a game file to the table of the rounds, in lent areas.
 //
-// The work area holds the old round while the table grows, so that a round sees the runs of the round before it alone.
-// A round is taken in one of two ways: of games of at most ten states over families of sets as bits, of others by the walk of its
-// runs. Both add the same entries. It leaves out both ways, which are below it.
-mod round;
+// Rounds are taken in one of two ways: where sets have few states, over families of sets that are kept over all rounds, the work area
+// having the entries in the order in which they came; else by the walk of their runs, the work area being the old round. Both leave the
+// same table. It leaves out how a round is taken, which is below it.
+mod areas;
+mod saturating;
 mod solving;
 
 pub use solving::Solution;

@@ -1,17 +1,15 @@
 // Solving: from a game file to the table of the rounds, in two lent areas.
-use crate::round::take_round;
+use crate::areas::rounds_by;
 use game::Answer;
 use game::Game;
 use game::Sizes;
-use narrow::ENDS;
-use narrow::HEADS;
-use narrow::KEYS;
-use narrow::LINES;
 use rounds::clear;
 use rounds::copy;
 use rounds::insert;
+use saturation::elements_of;
 use table::EntryWords;
 use table::is_length;
+use walk::take_wide;
 ghost use mathlib.Core.Path.{_≡_};
 ghost use mathlib.Core.List.{[], map};
 ghost use Prim.Native.Nat.{ℕ, _+_, _*_, _<_, _≤_};
@@ -65,7 +63,7 @@ pub fn solve(file: &[u8], table: &mut [u32], work: &mut [u32]) -> Solution
 
 // The same for a game that was read, over cleared areas of equal length.
 fn solve_game(game: Game, table: &mut [u32], work: &mut [u32]) -> Solution
-    requires { ⌜ ((g : PushdownGame) × (game ≡ stored g) × Good g) × (length (now table) ≡ length (now work)) ⌝ }
+    requires { ⌜ ((g : PushdownGame) × (game ≡ stored g) × Good g) × (length (now table) ≡ length (now work)) × (length (now table) ≤ 6144) ⌝ }
     ensures { λ r. ⌜ ((g : PushdownGame) (n : ℕ) → game ≡ stored g → Good g → now (table .entry) ≡ replicate (n * 3) 0
         → called r (now (table .exit)) (now (work .exit)) ≡ leaving (solvingGame g n) (length (now (table .entry))) (length (now (work .entry)))) ⌝ }
 {
@@ -83,6 +81,23 @@ fn all_rounds(
     table: &mut [u32],
     work: &mut [u32],
 ) -> Solution
+    requires { ⌜ ((g : PushdownGame) × Given g sizes (now rules) (now targets)) × (length (now table) ≡ length (now work)) × (length (now table) ≤ 6144) ⌝ }
+    ensures { λ r. ⌜ ((g : PushdownGame) (n : ℕ) → Given g sizes (now (rules .entry)) (now (targets .entry))
+        → now (table .entry) ≡ replicate (n * 3) 0
+        → called r (now (table .exit)) (now (work .exit)) ≡ leaving (solvingGame g n) (length (now (table .entry))) (length (now (work .entry)))) ⌝ }
+{
+    let numbering = elements_of(sizes, rules, targets);
+    rounds_by(sizes, rules, targets, numbering, table, work)
+}
+
+// The same by the walk of runs.
+pub fn walk_rounds(
+    sizes: Sizes,
+    rules: &[u8],
+    targets: &[u32],
+    table: &mut [u32],
+    work: &mut [u32],
+) -> Solution
     requires { ⌜ ((g : PushdownGame) × Given g sizes (now rules) (now targets)) × (length (now table) ≡ length (now work)) ⌝ }
     ensures { λ r. ⌜ ((g : PushdownGame) (n : ℕ) → Given g sizes (now (rules .entry)) (now (targets .entry))
         → now (table .entry) ≡ replicate (n * 3) 0
@@ -92,10 +107,7 @@ fn all_rounds(
     if table.len() / EntryWords::STRIDE < first {
         return give_up(table, work, 11, 0);
     }
-    if sizes.states <= 10 {
-        return narrow_rounds(sizes, rules, table, work, first);
-    }
-    wide_rounds(sizes, rules, table, work, first)
+    rounds_from(sizes, rules, table, work, first)
 }
 
 // Round 0: the target's transitions, birthdate 0.
@@ -121,64 +133,6 @@ fn round_zero(sizes: Sizes, rules: &[u8], targets: &[u32], table: &mut [u32]) ->
     count
 }
 
-// The rounds after round 0 of a game of at most ten states, with areas for families.
-fn narrow_rounds(
-    sizes: Sizes,
-    rules: &[u8],
-    table: &mut [u32],
-    work: &mut [u32],
-    first: usize,
-) -> Solution
-    requires { ⌜ Safe sizes (now rules) × (0 < sizes .letters) × (length (now table) ≡ length (now work)) × (first * 3 ≤ length (now table)) ⌝ }
-    ensures { λ r. ⌜ ((g : PushdownGame) (n : ℕ) → Held g sizes (now (rules .entry)) → Good g → Stored n (now (table .entry)) first (roundZero g)
-        → called r (now (table .exit)) (now (work .exit)) ≡ leaving (solvingRounds g n) (length (now (table .entry))) (length (now (work .entry)))) ⌝ }
-{
-    let mut all = [0u64; HEADS];
-    let mut ends = [0u64; ENDS];
-    let mut keys = [0usize; KEYS];
-    let mut lines = [0u64; LINES];
-    rounds_from(
-        sizes,
-        rules,
-        table,
-        work,
-        first,
-        &mut all,
-        &mut ends,
-        &mut keys,
-        &mut lines,
-    )
-}
-
-// Those of another game, with none.
-fn wide_rounds(
-    sizes: Sizes,
-    rules: &[u8],
-    table: &mut [u32],
-    work: &mut [u32],
-    first: usize,
-) -> Solution
-    requires { ⌜ Safe sizes (now rules) × (0 < sizes .letters) × (length (now table) ≡ length (now work)) × (first * 3 ≤ length (now table)) ⌝ }
-    ensures { λ r. ⌜ ((g : PushdownGame) (n : ℕ) → Held g sizes (now (rules .entry)) → Good g → Stored n (now (table .entry)) first (roundZero g)
-        → called r (now (table .exit)) (now (work .exit)) ≡ leaving (solvingRounds g n) (length (now (table .entry))) (length (now (work .entry)))) ⌝ }
-{
-    let mut none = [0u64; 1];
-    let mut ends = [0u64; 1];
-    let mut keys = [0usize; 1];
-    let mut lines = [0u64; 1];
-    rounds_from(
-        sizes,
-        rules,
-        table,
-        work,
-        first,
-        &mut none,
-        &mut ends,
-        &mut keys,
-        &mut lines,
-    )
-}
-
 // The rounds after round 0, taken in order until settled. The work area holds the old round.
 fn rounds_from(
     sizes: Sizes,
@@ -186,10 +140,6 @@ fn rounds_from(
     table: &mut [u32],
     work: &mut [u32],
     first: usize,
-    all: &mut [u64],
-    ends: &mut [u64],
-    keys: &mut [usize],
-    lines: &mut [u64],
 ) -> Solution
     requires { ⌜ Safe sizes (now rules) × (0 < sizes .letters) × (length (now table) ≡ length (now work)) × (first * 3 ≤ length (now table)) ⌝ }
     ensures { λ r. ⌜ ((g : PushdownGame) (n : ℕ) → Held g sizes (now (rules .entry)) → Good g → Stored n (now (table .entry)) first (roundZero g)
@@ -199,18 +149,7 @@ fn rounds_from(
     let mut i = 0u32;
     loop {
         copy(table, work);
-        let next = take_round(
-            sizes,
-            rules,
-            work,
-            table,
-            count,
-            i + 1,
-            all,
-            ends,
-            keys,
-            lines,
-        );
+        let next = take_wide(sizes, rules, work, table, count, i + 1);
         if next == count {
             clear(work);
             return Solution::Solved {
@@ -230,7 +169,7 @@ fn rounds_from(
 }
 
 // Clears the table as far as it was begun, and the work area, and refuses.
-fn give_up(begun: &mut [u32], work: &mut [u32], question: u8, place: usize) -> Solution
+pub fn give_up(begun: &mut [u32], work: &mut [u32], question: u8, place: usize) -> Solution
     ensures { λ r. ⌜ called r (now (begun .exit)) (now (work .exit))
         ≡ leaving (refused question place) (length (now (begun .entry))) (length (now (work .entry))) ⌝ }
     ensures { λ _. ⌜ length (now (begun .exit)) ≡ length (now (begun .entry)) ⌝ }

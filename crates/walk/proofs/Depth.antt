@@ -17,10 +17,11 @@ use Rattle.game.specs.SetLaws.{has-above}
 use Rattle.game.specs.ListLaws.{test, clash}
 use Rattle.rounds.specs.Scans.{Highest}
 
-pub record Bounded (lefts unions nexts : List ℕ) (count depth left i : ℕ) : Type 0 where
+pub record Bounded (lefts unions nexts limits : List ℕ) (count depth left i : ℕ) : Type 0 where
   pub lefts-long : length lefts ≡ 32
   pub unions-long : length unions ≡ 32
   pub nexts-long : length nexts ≡ 32
+  pub limits-long : length limits ≡ 32
   pub some : 0 < left
   pub fits : left < 2 ^ (32 - depth)
   pub within : i ≤ count
@@ -28,19 +29,20 @@ pub record Bounded (lefts unions nexts : List ℕ) (count depth left i : ℕ) : 
 
 -- where none waits
 pub bounded-start : (count left i : ℕ) → 0 < left → left < 4294967296 → i ≤ count
-    → Bounded (replicate 32 0) (replicate 32 0) (replicate 32 0) count 0 left i
+    → Bounded (replicate 32 0) (replicate 32 0) (replicate 32 0) (replicate 32 0) count 0 left i
 bounded-start count left i some small l =
     record {
       lefts-long = refl;
       unions-long = refl;
       nexts-long = refl;
+      limits-long = refl;
       some = some;
       fits = small;
       within = l;
       waits = λ d m. absurd (omega arith);
     }
 
-module _ (lefts unions nexts : List ℕ) (count depth left i : ℕ) (b : Bounded lefts unions nexts count depth left i) where
+module _ (lefts unions nexts limits : List ℕ) (count depth left i : ℕ) (b : Bounded lefts unions nexts limits count depth left i) where
   pub deep : depth < 32
   deep =
       ⊎-elim (λ (t : ltb depth 32 ≡ true). ltb-true depth 32 t)
@@ -51,12 +53,13 @@ module _ (lefts unions nexts : List ℕ) (count depth left i : ℕ) (b : Bounded
       (test (ltb depth 32))
 
   -- another entry
-  pub bounded-at : (j : ℕ) → j ≤ count → Bounded lefts unions nexts count depth left j
+  pub bounded-at : (j : ℕ) → j ≤ count → Bounded lefts unions nexts limits count depth left j
   bounded-at j l =
       record {
         lefts-long = b .lefts-long;
         unions-long = b .unions-long;
         nexts-long = b .nexts-long;
+        limits-long = b .limits-long;
         some = b .some;
         fits = b .fits;
         within = l;
@@ -64,13 +67,14 @@ module _ (lefts unions nexts : List ℕ) (count depth left i : ℕ) (b : Bounded
       }
 
   -- the level before
-  pub bounded-before : (d : ℕ) → d < depth → Bounded lefts unions nexts count d (getD lefts d 0) (getD nexts d 0)
+  pub bounded-before : (d : ℕ) → d < depth → Bounded lefts unions nexts limits count d (getD lefts d 0) (getD nexts d 0)
   bounded-before d l =
       let w = b .waits d l in
       record {
         lefts-long = b .lefts-long;
         unions-long = b .unions-long;
         nexts-long = b .nexts-long;
+        limits-long = b .limits-long;
         some = w .0;
         fits = w .1;
         within = w .2;
@@ -92,13 +96,14 @@ module _ (lefts unions nexts : List ℕ) (count depth left i : ℕ) (b : Bounded
     rest-fits : left % 2 ^ q < 2 ^ (32 - (depth + 1))
     rest-fits = omega (arith, mod-lt left (pow-pos q), pow-mono (less-one low))
 
-    pub bounded-after : (rest union next start : ℕ) → rest ≡ left % 2 ^ q → (rest ≡ 0 → ⊥) → next ≤ count → start ≤ count
-        → Bounded (set lefts depth left) (set unions depth union) (set nexts depth next) count (depth + 1) rest start
-    bounded-after rest union next start e more l m =
+    pub bounded-after : (rest union next limit start : ℕ) → rest ≡ left % 2 ^ q → (rest ≡ 0 → ⊥) → next ≤ count → start ≤ count
+        → Bounded (set lefts depth left) (set unions depth union) (set nexts depth next) (set limits depth limit) count (depth + 1) rest start
+    bounded-after rest union next limit start e more l m =
         record {
           lefts-long = rw length-set (b .lefts-long);
           unions-long = rw length-set (b .unions-long);
           nexts-long = rw length-set (b .nexts-long);
+          limits-long = rw length-set (b .limits-long);
           some = omega (arith, more);
           fits = rw e rest-fits;
           within = m;

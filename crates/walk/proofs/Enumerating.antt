@@ -11,7 +11,7 @@ use Rattle.table.specs.Table.{Entry, entryOf}
 use Rattle.rounds.specs.Rounds.{entryAt}
 use Rattle.rounds.specs.Enumeration.{restRuns}
 use Rattle.rounds.specs.Growing.{Growing, grow, growing}
-use Rattle.rounds.specs.GrowingLaws.{grown-held}
+use Rattle.rounds.specs.GrowingLaws.{HeldBy, grown-held, all-stay}
 use Rattle.rounds.specs.Filled.{Small, Filled}
 use Rattle.table.specs.WordLaws.{word-entry}
 use Rattle.rounds.specs.InsertLaws.{noEntry}
@@ -67,6 +67,7 @@ module _ (g : PushdownGame) (old : List Entry) (birthdate n : ℕ) (job : Job) (
   pub record Scanning (f : Entry → List ℕ) (s : Growing) (i : ℕ) (words : List ℕ) (count : ℕ) (memo : List ℕ) : Type 0 where
     pub now : Growing
     pub entered : Entered g old birthdate n job rules work words count memo now
+    pub kept : (es : List Entry) → HeldBy n es s → HeldBy n es now
     pub rest : growing n (map given (flatMap f old)) s ≡ growing n (map given (flatMap f (drop i old))) now
 
   module _ (f : Entry → List ℕ) (s : Growing) (i : ℕ) (words : List ℕ) (count : ℕ) (memo : List ℕ) (c : Scanning f s i words count memo) where
@@ -77,6 +78,7 @@ module _ (g : PushdownGame) (old : List Entry) (birthdate n : ℕ) (job : Job) (
         record {
           now = growing n es (c .now);
           entered = goes-on words count memo (c .now) es words′ count′ memo′ (c .entered) d;
+          kept = λ fs held. all-stay n es fs (c .now) (c .kept fs held);
           rest = c .rest ∙ grown-from n given f noEntry i old (c .now) (omega (arith, c .entered .stands .stored .counted));
         }
 

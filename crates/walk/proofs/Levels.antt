@@ -55,16 +55,18 @@ module _ {A : Type 0} (n : ℕ) (f : A → List Entry) (d : A) where
       ⊎-elim (λ here. held 0 (omega arith) e here) (λ there. held-all xs s (λ k l. held (suc k) (omega arith)) e there)
       (List·Memᴰ·append-cases (f x) m)
 
--- A level: the states left, the highest of them, the union in hand, and the next entry to take.
+-- A level: the states left, the highest of them, the union in hand, the next entry to take, and the word below which an entry is
+-- older, 0 if the way to the level has an entry of the last round.
 pub record Level : Type 0 where
   pub left : ℕ
   pub highest : ℕ
   pub union : ℕ
   pub next : ℕ
+  pub late : ℕ
 
 -- a level at another entry
 abbrev pub moved : Level → ℕ → Level
-moved v i = record { left = v .left; highest = v .highest; union = v .union; next = i }
+moved v i = record { left = v .left; highest = v .highest; union = v .union; next = i; late = v .late }
 
 module _ (g : PushdownGame) (old : List Entry) (birthdate n : ℕ) (job : Job) (r : ℕ) where
   -- what an entry gives at a level

@@ -4,9 +4,14 @@ pub mod Enumerating
 pub mod HeadPlaces
 pub mod Parts
 pub mod Turns
+pub mod Earlier
+pub mod Freshness
 pub mod Depth
 pub mod Levels
+pub mod LevelParts
 pub mod Walking
 pub mod Skipping
 pub mod Rounding
+pub mod FirstRuns
 pub mod RoundTurns
+pub mod Nest

@@ -1,96 +1,42 @@
--- What the turns of a round hand on: a run of a rule, the job of a rule and its runs, the rules of a head, the heads.
+-- What the turns of a round hand on: the job of a rule and its runs, the rules of a head, the heads.
 use Prim.Native.Nat.{ℕ, zero, suc, _+_, _*_, _-_, _/_, _%_, _<_, _≤_}
 use native.Mathlib.Omega.{arith}
 use native.Mathlib.Nat.{mod-lt, div-lt-iff-lt-mul}
 use native.Mathlib.Numerals.{add-one}
-use mathlib.Core.Path.{_≡_, refl, sym, ap, ap₂, _∙_}
-use mathlib.Core.Logic.{inl, inr, ⊎-elim}
+use mathlib.Core.Path.{_≡_, refl, sym, ap, ap₂, subst, _∙_}
+use mathlib.Core.Logic.{_⊎_, inl, inr, ⊎-elim}
 use mathlib.Core.Bool.{Bool, true, false, cond}
-use mathlib.Core.List.{List, [], _++_, map, flatMap}
+use mathlib.Core.List.{List, [], _∷_, _++_, map, flatMap, List·Memᴰ·tail}
 use lib.ListN.{length, getD, drop, replicate}
-use lib.Pow.{pow-pos}
 use lib.Dec.{eqb, ltb}
-use borrow.Author.Tests.{eq-eqb, ne-eqb, eqb-true, eqb-false, ltb-true, ltb-false}
-use Rattle.game.specs.Sets.{has, single, union}
+use borrow.Author.Tests.{ne-eqb, eqb-true, eqb-false, ltb-true, ltb-false}
+use Rattle.game.specs.Sets.{has, union}
 use Rattle.game.specs.Game.{Rule, PushdownGame, ofHead}
 use Rattle.game.specs.Held.{Held, Safe}
 use Rattle.game.specs.GoodGame.{Good, GoodRule}
 use Rattle.game.specs.Stored.{ruleAt}
 use Rattle.game.specs.StoredLaws.{noRule}
-use Rattle.game.specs.ListLaws.{test}
+use Rattle.game.specs.ListLaws.{_∈_, test, map-in, in-map, flatMap-in, in-flatMap}
 use Rattle.game.specs.Win.{isAbelard}
 use Rattle.game.specs.declared.game.Sizes.{Sizes}
 use Rattle.table.specs.Table.{Entry}
 use Rattle.judge.specs.Worth.{entryOfHead}
 use Rattle.rounds.specs.Rounds.{below, entryAt, headCandidates, candidates}
-use Rattle.rounds.specs.RoundLaws.{AllRanged}
-use Rattle.game.specs.UnionLaws.{none-union}
-use Rattle.rounds.specs.Enumeration.{map-flatMap}
-use Rattle.rounds.specs.Growing.{Growing, growing, partly}
-use Rattle.rounds.specs.Filled.{Stored, Filled}
-use Rattle.walk.specs.Jobs.{Able, Stands, Entered, Finished, Whole, Memoed, endOf, fieldOf, subRuns, beginRuns, tagOf}
-use Rattle.rounds.specs.Scans.{NextRule}
+use Rattle.rounds.specs.Enumeration.{restRuns, map-flatMap}
+use Rattle.rounds.specs.Growing.{Growing}
+use Rattle.walk.specs.Jobs.{Able, Stands, Whole, Memoed, endOf, fieldOf, subRuns, beginRuns, tagOf}
+use Rattle.rounds.specs.Scans.{NextRule, rulesBetween}
+use Rattle.walk.specs.Past.{older, Past, Settled, SettledFrom, Aging}
+use Rattle.walk.specs.PastLaws.{past-same, rest-aged}
 use Rattle.walk.specs.Places.{PlacedHead, PlacedTo, Placing}
 use Rattle.rounds.specs.InsertLaws.{noEntry, getD-in}
 use Rattle.walk.specs.RoundJobs.{jobOf, runsOf, runRuns, Blank, RunsStart, RunsEnd}
-use Rattle.walk.specs.RoundJobLaws.{jobsFrom, jobAt, jobs-are, next-same, none-after, job-first, runs-by-place, from-number, from-last, pairs-are, run-pops, run-writes}
+use Rattle.walk.specs.RoundJobLaws.{jobsFrom, jobAt, jobs-are, next-same, none-after, job-first, runs-by-place, from-number, from-last, pairs-are, run-writes}
 use Rattle.walk.specs.declared.runs.Job.{Job}
 use Rattle.walk.proofs.HeadPlaces.{before-head, after-head}
 use Rattle.rounds.specs.ScanLaws.{rule-at, head-at}
-use Rattle.walk.proofs.Turns.{to-is, count-is, to-small}
-use Rattle.walk.proofs.Rounding.{Entries, runAt, runsFrom, rulesFrom, headsFrom, Setting, Adds, Turning, goes-on}
-
--- `run_at`: how many runs a rule has that writes letters
-pub runs-written : (rules : List ℕ) (r old : ℕ) → (getD rules (r * 6 + 3) 0 ≡ 0 → ⊥) → runsOf rules r old ≡ old
-unfolding runsOf
-runs-written rules r old n = rw (ne-eqb (getD rules (r * 6 + 3) 0) 0 n)
-
-pub runs-popped : (rules : List ℕ) (r old : ℕ) → getD rules (r * 6 + 3) 0 ≡ 0 → runsOf rules r old ≡ 1
-unfolding runsOf
-runs-popped rules r old e = rw (eq-eqb (getD rules (r * 6 + 3) 0) 0 e)
-
--- runs that end where the code ends them are among them
-pub runs-within : (rules places : List ℕ) (r old end : ℕ) → RunsEnd rules places r old end → end ≤ runsOf rules r old
-runs-within rules places r old end s =
-    ⊎-elim
-    (λ (t : eqb (getD rules (r * 6 + 3) 0) 0 ≡ true).
-    let z = eqb-true (getD rules (r * 6 + 3) 0) 0 t in
-    omega (arith, runs-popped rules r old z, s .one z))
-    (λ (t : eqb (getD rules (r * 6 + 3) 0) 0 ≡ false).
-    let some = eqb-false (getD rules (r * 6 + 3) 0) 0 t in
-    omega (arith, runs-written rules r old some, s .within some))
-    (test (eqb (getD rules (r * 6 + 3) 0) 0))
-
--- and the runs at a place, as the rule's bytes say
-module _ (g : PushdownGame) (old : List Entry) (birthdate n : ℕ) (job : Job) (rules work words : List ℕ) (count : ℕ) (memo : List ℕ) (s : Growing) (h : Entered g old birthdate n job rules work words count memo s) (r : ℕ) (l : r < job .end) where
-  goes-to : getD rules (r * 6 + 2) 0 ≡ getD (g .rules) r noRule .to
-  goes-to = to-is g old birthdate n job rules work words count memo s h r l
-
-  writes-so-many : getD rules (r * 6 + 3) 0 ≡ getD (g .rules) r noRule .count
-  writes-so-many = count-is g old birthdate n job rules work words count memo s h r l
-
-  module _ (passed : ℕ) (e : getD rules (r * 6 + 2) 0 < 32 → passed ≡ union 0 (single (getD rules (r * 6 + 2) 0))) where
-    passed-is : passed ≡ single (getD (g .rules) r noRule .to)
-    passed-is =
-        e (omega (arith, goes-to, to-small g old birthdate n job rules work words count memo s h r l))
-        ∙ none-union (single (getD rules (r * 6 + 2) 0))
-        ∙ ap single goes-to
-
-    pub passed-some : 0 < passed
-    passed-some = omega (arith, passed-is, pow-pos (getD (g .rules) r noRule .to))
-
-    pub popped : getD rules (r * 6 + 3) 0 ≡ 0 → (i : ℕ)
-        → subRuns g old (job .state) (job .letter) (job .end) r 0 passed ≡ runRuns g old (job .state) (job .letter) (job .end) r i
-    popped z i =
-        ap (subRuns g old (job .state) (job .letter) (job .end) r 0) passed-is
-        ∙ sym (run-pops g old (job .state) (job .letter) (job .end) r i (eq-eqb (getD (g .rules) r noRule .count) 0 (sym writes-so-many ∙ z)))
-
-  pub written : (getD rules (r * 6 + 3) 0 ≡ 0 → ⊥) → (i : ℕ)
-      → beginRuns g old (job .state) (job .letter) (job .end) r i 0 ≡ runRuns g old (job .state) (job .letter) (job .end) r i
-  written z i =
-      sym
-      (run-writes g old (job .state) (job .letter) (job .end) r i
-      (ne-eqb (getD (g .rules) r noRule .count) 0 (λ e. z (writes-so-many ∙ e))))
+use Rattle.walk.proofs.Rounding.{runAt, runsFrom, rulesFrom, headsFrom, Setting}
+use Rattle.walk.proofs.FirstRuns.{runs-written, runs-popped}
 
 -- a blank memo names nothing
 pub blank-memoed : (g : PushdownGame) (es : List Entry) (birthdate n : ℕ) (memo : List ℕ) (s : Growing) → Blank memo → Memoed g es birthdate n memo s
@@ -116,6 +62,12 @@ pub runs-none : (birthdate : ℕ) (job : Job) (r runs i : ℕ) → runs ≤ i �
 unfolding runsFrom
 runs-none birthdate job r runs i l g es = from-last (λ j. runAt birthdate job r j g es) i runs l
 
+-- what is in a list from a place on
+drop-in : {A : Type 0} (i : ℕ) (xs : List A) {x : A} → x ∈ drop i xs → x ∈ xs
+drop-in zero xs m = m
+drop-in (suc i) [] m = m
+drop-in (suc i) (y ∷ xs) m = List·Memᴰ·tail (drop-in i xs m)
+
 -- runs that give nothing are passed over
 runs-skip : (birthdate : ℕ) (job : Job) (r runs : ℕ) (g : PushdownGame) (es : List Entry) (m i : ℕ) → i + m ≤ runs
     → ((k : ℕ) → i ≤ k → k < i + m → runAt birthdate job r k g es ≡ [])
@@ -131,26 +83,28 @@ runs-skip birthdate job r runs g es (suc m) i l none =
     ∙ runs-skip birthdate job r runs g es m (i + 1) (omega arith) (λ k a b. none k (omega arith) (omega arith)))
 
 -- What the code has at a rule: it is one of the head (p, a), and its job and its runs are made.
-pub record AtRule (sizes : Sizes) (rules : List ℕ) (old birthdate p a r : ℕ) (job : Job) (runs : ℕ) : Type 0 where
+pub record AtRule (sizes : Sizes) (rules fresh : List ℕ) (old birthdate p a r : ℕ) (job : Job) (runs : ℕ) : Type 0 where
   pub low : p < sizes .control
   pub high : a < sizes .letters
   pub within : r < sizes .rulecount
   pub hit : ofHead p a (ruleAt rules (r * 6) 0) ≡ true
-  pub made : job ≡ jobOf sizes p a birthdate r old
+  pub made : job ≡ jobOf sizes p a birthdate r old (job .last)
+  pub settled : SettledFrom rules fresh (job .end) p a (job .last)
   pub so-many : runs ≡ runsOf rules r old
 
-pub at-rule : (sizes : Sizes) (rules : List ℕ) (old birthdate head r : ℕ) (job : Job) (runs : ℕ) → 0 < sizes .letters
+pub at-rule : (sizes : Sizes) (rules fresh : List ℕ) (old birthdate head r : ℕ) (job : Job) (runs : ℕ) → 0 < sizes .letters
     → head < sizes .control * sizes .letters → r < sizes .rulecount
     → (r < sizes .rulecount → ofHead (head / sizes .letters) (head % sizes .letters) (ruleAt rules (r * 6) 0) ≡ true)
-    → job ≡ jobOf sizes (head / sizes .letters) (head % sizes .letters) birthdate r old → runs ≡ runsOf rules r old
-    → AtRule sizes rules old birthdate (head / sizes .letters) (head % sizes .letters) r job runs
-at-rule sizes rules old birthdate head r job runs some l within hit made so-many =
+    → job ≡ jobOf sizes (head / sizes .letters) (head % sizes .letters) birthdate r old (job .last)
+    → SettledFrom rules fresh (job .end) (head / sizes .letters) (head % sizes .letters) (job .last) → runs ≡ runsOf rules r old
+    → AtRule sizes rules fresh old birthdate (head / sizes .letters) (head % sizes .letters) r job runs
+at-rule sizes rules fresh old birthdate head r job runs some l within hit made settled so-many =
     let place = head-at (sizes .control) (sizes .letters) head some l in
-    record { low = place .0; high = place .1; within = within; hit = hit within; made = made; so-many = so-many }
+    record { low = place .0; high = place .1; within = within; hit = hit within; made = made; settled = settled; so-many = so-many }
 
 -- what its runs need of indexes
 pub at-able : (sizes : Sizes) (rules work : List ℕ) (old birthdate p a r : ℕ) (job : Job) → Safe sizes rules → old * 3 ≤ length work
-    → r < sizes .rulecount → job ≡ jobOf sizes p a birthdate r old
+    → r < sizes .rulecount → job ≡ jobOf sizes p a birthdate r old (job .last)
     → Able job (length rules) (length work) × (r < job .end) × (job .end ≤ sizes .rulecount) × (job .count ≡ old)
 at-able sizes rules work old birthdate p a r job safe fits l made =
     let count : job .count ≡ old = ap (λ (x : Job). x .count) made in
@@ -182,7 +136,7 @@ module _ (g : PushdownGame) (es : List Entry) (n : ℕ) (sizes : Sizes) (rules p
   rules-are = ap (λ (x : Sizes). x .rulecount) (h .held .sized)
 
   -- the job of a rule
-  module _ (p a r : ℕ) (job : Job) (runs : ℕ) (at : AtRule sizes rules old birthdate p a r job runs) where
+  module _ (fresh : List ℕ) (p a r : ℕ) (job : Job) (runs : ℕ) (at : AtRule sizes rules fresh old birthdate p a r job runs) where
     end-is : job .end ≡ endOf g p r
     unfolding endOf
     end-is = ap (λ (x : Job). x .end) (at .made) ∙ rw (h .held .sized, add-one r)
@@ -239,6 +193,19 @@ module _ (g : PushdownGame) (es : List Entry) (n : ℕ) (sizes : Sizes) (rules p
               (⊎-elim (λ (t : isAbelard g p ≡ true). inl (t, rw t, rw t)) (λ (t : isAbelard g p ≡ false). inr (t, rw t)) (test (isAbelard g p)));
         }
 
+    -- what is noted of the last round holds of its rules
+    pub job-aging : ((e : Entry) → e ∈ es → (e ∈ older birthdate es) ⊎ (has (getD fresh (e .letter) 0) (e .state) ≡ true)) → Aging g es birthdate job fresh
+    unfolding ofHead
+    job-aging marked =
+        record {
+          marked = marked;
+          settled =
+              λ k l m of.
+              let same = rule-at rules (h .held .slack) (g .rules) (h .held .stands) k (omega (arith, end-is, end-within)) in
+              let bytes = at .settled k l m (ap (ofHead p a) same ∙ (rw (state-is, letter-is) at of)) in
+              subst (Settled fresh) same (record { above = bytes .above; below = bytes .below });
+        }
+
     -- what it gives is what its runs do
     job-runs : jobAt g es birthdate p a r ≡ runsFrom birthdate job r runs 0 g es
     unfolding jobAt runsFrom
@@ -247,6 +214,42 @@ module _ (g : PushdownGame) (es : List Entry) (n : ℕ) (sizes : Sizes) (rules p
         (ap (map (entryAt p a birthdate (fieldOf g p r)))
         (runs-by-place g es birthdate p a rules (h .held .slack) (h .held .stands) (endOf g p r) r end-within after-rule (at .hit))
         ∙ map-flatMap (entryAt p a birthdate (fieldOf g p r)) (runRuns g es p a (endOf g p r) r) (below (runsOf rules r (length es))))
+
+    -- what the job gives over a table, in its own terms
+    job-gives : (table : List Entry)
+        → jobAt g table birthdate p a r
+        ≡ map (entryAt (job .state) (job .letter) birthdate (job .field)) (restRuns g table (rulesBetween g (job .state) (job .letter) r (job .end)) 0)
+    unfolding jobAt
+    job-gives table = rw (state-is, letter-is, end-is, field-is)
+
+    -- where none of its rules can have an entry of the last round, its runs are given by older entries
+    pub runs-aged : Aging g es birthdate job fresh → job .last ≤ r → (i : ℕ) (e : Entry) → e ∈ runsFrom birthdate job r runs i g es
+        → e ∈ jobAt g (older birthdate es) birthdate p a r
+    unfolding runsFrom
+    runs-aged aging l i e m =
+        let entry = entryAt (job .state) (job .letter) birthdate (job .field) in
+        let of : List Entry → List ℕ = λ table. restRuns g table (rulesBetween g (job .state) (job .letter) r (job .end)) 0 in
+        let f = flatMap-in (λ j. runAt birthdate job r j g es) (drop i (below runs)) m in
+        let whole = in-flatMap (λ j. runAt birthdate job r j g es) (drop-in i (below runs) (f .1)) (f .2) in
+        let x = map-in entry (of es) (subst (λ (l : List Entry). e ∈ l) (sym job-runs ∙ job-gives es) whole) in
+        subst (λ (l : List Entry). e ∈ l) (sym (job-gives (older birthdate es)))
+        (subst (λ (y : Entry). y ∈ map entry (of (older birthdate es))) (sym (x .2))
+        (in-map entry (rest-aged g es birthdate job fresh aging r 0 l (x .0) (x .1))))
+
+    -- what older entries give of it, as its runs are asked for it
+    pub job-past : (late : ℕ) (s : Growing) → Past birthdate n late (jobAt g (older birthdate es) birthdate p a r) s
+        → Past birthdate n late
+        (map (entryAt (job .state) (job .letter) birthdate (job .field))
+        (restRuns g (older birthdate es) (rulesBetween g (job .state) (job .letter) r (job .end)) 0)) s
+    job-past late s past = past-same birthdate n late s (job-gives (older birthdate es)) past
+
+    -- and of the rules from it on they give what the job does, then what the rules after the job do
+    pub past-split : (table : List Entry)
+        → rulesFrom birthdate p a r g table ≡ jobAt g table birthdate p a r ++ rulesFrom birthdate p a (job .end) g table
+    unfolding rulesFrom
+    past-split table =
+        job-first g table birthdate p a rules (h .held .slack) (h .held .stands) (h .good .ranged .numbers) r (omega (arith, rules-are, at .within)) (at .hit)
+        ∙ ap (λ (k : ℕ). jobAt g table birthdate p a r ++ jobsFrom g table birthdate p a k) (sym end-is)
 
     rule-bytes : ruleAt rules (r * 6) (getD (g .rules) r noRule .number) ≡ getD (g .rules) r noRule
     rule-bytes = rule-at rules (h .held .slack) (g .rules) (h .held .stands) r (omega (arith, rules-are, at .within))
@@ -321,9 +324,14 @@ module _ (g : PushdownGame) (es : List Entry) (n : ℕ) (sizes : Sizes) (rules p
         ∙ ap₂ _++_ job-runs (ap (jobsFrom g es birthdate p a) (sym end-is))
 
   -- nothing lies between a place and the next rule
-  pub rules-next : (p a from r : ℕ) → NextRule rules (sizes .rulecount) from p a r → rulesFrom birthdate p a from g es ≡ rulesFrom birthdate p a r g es
+  pub rules-next : (table : List Entry) (p a from r : ℕ) → NextRule rules (sizes .rulecount) from p a r
+      → rulesFrom birthdate p a from g table ≡ rulesFrom birthdate p a r g table
   unfolding rulesFrom
-  rules-next p a from r next = next-same g es birthdate p a rules (h .held .slack) (h .held .stands) from r (rw rules-are at next)
+  rules-next table p a from r next = next-same g table birthdate p a rules (h .held .slack) (h .held .stands) from r (rw rules-are at next)
+
+  pub past-next : (p a from r : ℕ) → NextRule rules (sizes .rulecount) from p a r → (e : Entry)
+      → e ∈ rulesFrom birthdate p a r g (older birthdate es) → e ∈ rulesFrom birthdate p a from g (older birthdate es)
+  past-next p a from r next e m = subst (λ (l : List Entry). e ∈ l) (sym (rules-next (older birthdate es) p a from r next)) m
 
   pub rules-none : (p a r : ℕ) → sizes .rulecount ≤ r → rulesFrom birthdate p a r g es ≡ []
   unfolding rulesFrom
@@ -331,94 +339,29 @@ module _ (g : PushdownGame) (es : List Entry) (n : ℕ) (sizes : Sizes) (rules p
 
   module _ (letters heads head : ℕ) (so-wide : letters ≡ sizes .letters) (so-many : heads ≡ sizes .control * sizes .letters) where
     -- the heads from one on
-    pub heads-split : head < heads
-        → headsFrom birthdate letters heads head g es
-        ≡ rulesFrom birthdate (head / letters) (head % letters) 0 g es ++ headsFrom birthdate letters heads (head + 1) g es
+    pub heads-split : (table : List Entry) → head < heads
+        → headsFrom birthdate letters heads head g table
+        ≡ rulesFrom birthdate (head / letters) (head % letters) 0 g table ++ headsFrom birthdate letters heads (head + 1) g table
     unfolding headsFrom rulesFrom
-    heads-split l =
+    heads-split table l =
         let some : 0 < letters = omega (arith, letters-are, h .good .ranged .bottom) in
         let low : head / letters < g .control = div-lt-iff-lt-mul some .1 (rw (so-wide, ← control-is, ← so-many) l) in
         let high : head % letters < g .letters = omega (arith, mod-lt head some, letters-are) in
-        let f : ℕ → List Entry = λ k. headCandidates g es birthdate (k / letters) (k % letters) in
+        let f : ℕ → List Entry = λ k. headCandidates g table birthdate (k / letters) (k % letters) in
         rw (add-one head)
         (from-number f head heads l
         ∙ ap (_++ flatMap f (drop (suc head) (below heads)))
-        (jobs-are g es birthdate (head / letters) (head % letters) (h .good) low high))
+        (jobs-are g table birthdate (head / letters) (head % letters) (h .good) low high))
 
     pub heads-none : heads ≤ head → headsFrom birthdate letters heads head g es ≡ []
     unfolding headsFrom
     heads-none l = from-last (λ k. headCandidates g es birthdate (k / letters) (k % letters)) head heads l
 
-    pub heads-all : headsFrom birthdate letters heads 0 g es ≡ candidates g es birthdate
+    pub heads-all : (table : List Entry) → headsFrom birthdate letters heads 0 g table ≡ candidates g table birthdate
     unfolding headsFrom candidates
-    heads-all = rw (so-many, so-wide, control-is, letters-are) (sym (pairs-are (headCandidates g es birthdate) (g .letters) (g .control)))
+    heads-all table = rw (so-many, so-wide, control-is, letters-are) (sym (pairs-are (headCandidates g table birthdate) (g .letters) (g .control)))
 
--- The turns themselves.
-module _ (sizes : Sizes) (rules places work : List ℕ) (old birthdate : ℕ) where
-  module _ (born : birthdate < 65536) (p a r : ℕ) (job : Job) (runs : ℕ) (at : AtRule sizes rules old birthdate p a r job runs) where
-    -- what a run promises
-    run-adds : (i : ℕ) {words : List ℕ} {count : ℕ} {memo words′ : List ℕ} {count′ : ℕ} {memo′ : List ℕ}
-        → ((g : PushdownGame) (es : List Entry) (b n : ℕ) (s : Growing) → Entered g es b n job rules work words count memo s → Placing g work (job .count) places → Whole g job r
-        → Finished g es b n (runAt b job r i g es) s words′ count′ memo′)
-        → Adds sizes rules places work old birthdate (runAt birthdate job r i) words count memo words′ count′ memo′
-    run-adds i promise =
-        record {
-          adds =
-              λ g es n s h f m.
-              promise g es birthdate n s
-              (record { stands = job-stands g es n sizes rules places work old h birthdate p a r job runs at born; filled = f; memoed = m })
-              (rw (ap (λ (x : Job). x .count) (at .made)) (h .placing))
-              (job-whole g es n sizes rules places work old h birthdate p a r job runs at);
-        }
-
-    -- one run more
-    pub run-turn : (i : ℕ) {words₀ : List ℕ} {count₀ : ℕ} {memo₀ words : List ℕ} {count : ℕ} {memo words′ : List ℕ} {count′ : ℕ} {memo′ : List ℕ}
-        → Turning sizes rules places work old birthdate (runsFrom birthdate job r runs 0) (runsFrom birthdate job r runs i) words₀ count₀ memo₀ words count memo
-        → i < runs
-        → ((g : PushdownGame) (es : List Entry) (b n : ℕ) (s : Growing) → Entered g es b n job rules work words count memo s → Placing g work (job .count) places → Whole g job r
-        → Finished g es b n (runAt b job r i g es) s words′ count′ memo′)
-        → Turning sizes rules places work old birthdate (runsFrom birthdate job r runs 0) (runsFrom birthdate job r runs (i + 1)) words₀ count₀ memo₀ words′ count′ memo′
-    run-turn i t l promise =
-        goes-on sizes rules places work old birthdate t (runAt birthdate job r i) (runsFrom birthdate job r runs (i + 1))
-        (λ g es n h. runs-split birthdate job r runs i l g es)
-        (run-adds i promise)
-
-    -- one job more
-    pub job-turn : {words₀ : List ℕ} {count₀ : ℕ} {memo₀ words : List ℕ} {count : ℕ} {memo words′ : List ℕ} {count′ : ℕ} {memo′ : List ℕ}
-        → Turning sizes rules places work old birthdate (rulesFrom birthdate p a 0) (rulesFrom birthdate p a r) words₀ count₀ memo₀ words count memo
-        → Adds sizes rules places work old birthdate (runsFrom birthdate job r runs 0) words count memo words′ count′ memo′
-        → Turning sizes rules places work old birthdate (rulesFrom birthdate p a 0) (rulesFrom birthdate p a (job .end)) words₀ count₀ memo₀ words′ count′ memo′
-    job-turn t d =
-        goes-on sizes rules places work old birthdate t (runsFrom birthdate job r runs 0) (rulesFrom birthdate p a (job .end))
-        (λ g es n h. rules-split g es n sizes rules places work old h birthdate p a r job runs at)
-        d
-
-  -- the heads from one on
-  abbrev headsOf : ℕ → Entries
-  headsOf head = headsFrom birthdate (sizes .letters) (sizes .control * sizes .letters) head
-
-  -- one head more
-  pub head-turn : (head : ℕ) {words₀ : List ℕ} {count₀ : ℕ} {memo₀ words : List ℕ} {count : ℕ} {memo words′ : List ℕ} {count′ : ℕ} {memo′ : List ℕ}
-      → Turning sizes rules places work old birthdate (headsOf 0) (headsOf head) words₀ count₀ memo₀ words count memo → head < sizes .control * sizes .letters
-      → Adds sizes rules places work old birthdate (rulesFrom birthdate (head / sizes .letters) (head % sizes .letters) 0) words count memo words′ count′ memo′
-      → Turning sizes rules places work old birthdate (headsOf 0) (headsOf (head + 1)) words₀ count₀ memo₀ words′ count′ memo′
-  head-turn head t l d =
-      goes-on sizes rules places work old birthdate t (rulesFrom birthdate (head / sizes .letters) (head % sizes .letters) 0) (headsOf (head + 1))
-      (λ g es n h. heads-split g es n sizes rules places work old h birthdate (sizes .letters) (sizes .control * sizes .letters) head refl refl l)
-      d
-
-  -- the whole round
-  pub round-filled : {words : List ℕ} {memo words′ : List ℕ} {count′ : ℕ} {memo′ : List ℕ}
-      → Adds sizes rules places work old birthdate (headsOf 0) words old memo words′ count′ memo′
-      → (g : PushdownGame) (es : List Entry) (n : ℕ) → Held g sizes rules → Good g → AllRanged g es → Stored n work old es
-      → Stored n words old es → Placing g work old places → Blank memo
-      → Filled n words′ count′ (growing n (candidates g es birthdate) (partly es))
-  round-filled {words} {memo} d g es n held good ranged stored table placing blank =
-      let h : Setting g es n sizes rules places work old = record { held = held; good = good; ranged = ranged; stored = stored; placing = placing } in
-      let f = d .adds g es n (partly es) h (inr (refl, table)) (blank-memoed g es birthdate n memo (partly es) blank) .filled in
-      rw (heads-all g es n sizes rules places work old h birthdate (sizes .letters) (sizes .control * sizes .letters) 0 refl refl) at f
-
--- `take_round`: the places of every head of the automaton are looked up
+-- `take_wide`: the places of every head of the automaton are looked up
 module _ (g : PushdownGame) (sizes : Sizes) (rules : List ℕ) (held : Held g sizes rules) (good : Good g) where
   pub letters-few : sizes .letters ≤ 64
   letters-few = omega (arith, ap (λ (x : Sizes). x .letters) (held .sized), good .ranged .letters)

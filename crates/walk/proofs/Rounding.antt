@@ -2,10 +2,12 @@
 use Prim.Native.Nat.{ℕ, _/_, _%_, _<_}
 use native.Mathlib.Omega.{arith}
 use mathlib.Core.Path.{_≡_, refl, sym, ap, _∙_}
-use mathlib.Core.Logic.{⊎-elim}
+use mathlib.Core.Logic.{_⊎_, ⊎-elim}
 use mathlib.Core.Bool.{true}
 use mathlib.Core.List.{List, [], _++_, map, flatMap}
-use lib.ListN.{length, drop}
+use lib.ListN.{length, getD, drop}
+use Rattle.game.specs.Sets.{has}
+use Rattle.game.specs.ListLaws.{_∈_}
 use Rattle.game.specs.Game.{PushdownGame}
 use Rattle.game.specs.GoodGame.{Good}
 use Rattle.game.specs.Held.{Held}
@@ -14,12 +16,14 @@ use Rattle.table.specs.Table.{Entry}
 use Rattle.rounds.specs.Rounds.{below, entryAt, headCandidates}
 use Rattle.rounds.specs.RoundLaws.{AllRanged}
 use Rattle.rounds.specs.Growing.{Growing, growing, fully, full-stays}
-use Rattle.rounds.specs.GrowingLaws.{growing-append}
+use Rattle.rounds.specs.GrowingLaws.{growing-append, held-passed}
 use Rattle.rounds.specs.Filled.{Stored, Filled}
 use Rattle.walk.specs.Places.{Placing}
+use Rattle.walk.specs.Past.{older, Past}
+use Rattle.walk.specs.PastLaws.{past-stays}
 use Rattle.walk.specs.Jobs.{Finished, Memoed}
 use Rattle.walk.specs.RoundJobs.{runRuns}
-use Rattle.walk.specs.RoundJobLaws.{jobsFrom}
+use Rattle.walk.specs.RoundJobLaws.{jobsFrom, jobAt}
 use Rattle.walk.specs.declared.runs.Job.{Job}
 use Rattle.rounds.specs.StoredRows.{long-of}
 
@@ -39,6 +43,10 @@ runsFrom birthdate job r runs i g es = flatMap (λ j. runAt birthdate job r j g 
 unfoldable pub rulesFrom : ℕ → ℕ → ℕ → ℕ → Entries
 rulesFrom birthdate p a r g es = jobsFrom g es birthdate p a r
 
+-- the whole job of a rule
+abbrev pub jobEntries : ℕ → ℕ → ℕ → ℕ → Entries
+jobEntries birthdate p a r g es = jobAt g es birthdate p a r
+
 unfoldable pub headsFrom : ℕ → ℕ → ℕ → ℕ → Entries
 headsFrom birthdate letters heads head g es =
     flatMap (λ h. headCandidates g es birthdate (h / letters) (h % letters)) (drop head (below heads))
@@ -50,6 +58,11 @@ pub record Setting (g : PushdownGame) (es : List Entry) (n : ℕ) (sizes : Sizes
   pub ranged : AllRanged g es
   pub stored : Stored n work old es
   pub placing : Placing g work old places
+
+-- What is known of the last round: its entries are noted, and what older ones give of a list is held, where there was a round before.
+pub record Known (es : List Entry) (birthdate n : ℕ) (fresh : List ℕ) (late : ℕ) (kept : List Entry) (s : Growing) : Type 0 where
+  pub marked : (e : Entry) → e ∈ es → (e ∈ older birthdate es) ⊎ (has (getD fresh (e .letter) 0) (e .state) ≡ true)
+  pub past : Past birthdate n late kept s
 
 -- A table that was grown, and what of a list is still to come.
 pub record Going (g : PushdownGame) (es : List Entry) (birthdate n : ℕ) (whole : List Entry) (s : Growing) (rest : List Entry) (words : List ℕ) (count : ℕ) (memo : List ℕ) : Type 0 where
@@ -71,83 +84,119 @@ over-full n words count s f l =
     (λ t. absurd (omega (arith, long-of n words count s f, t .1 .counted, t .1 .fits)))
     f
 
-module _ (sizes : Sizes) (rules places work : List ℕ) (old birthdate : ℕ) where
+module _ (sizes : Sizes) (rules places fresh work : List ℕ) (old birthdate late : ℕ) where
+  abbrev In : PushdownGame → List Entry → ℕ → Type 0
+  In g es n = Setting g es n sizes rules places work old
+
+  -- what is known where a list is kept of the past
+  abbrev pub Knows : Entries → PushdownGame → List Entry → ℕ → Growing → Type 0
+  Knows kept g es n s = Known es birthdate n fresh late (kept g (older birthdate es)) s
+
   -- From one table and memo to another a list is added, whatever game they stand for.
-  pub record Adds (list : Entries) (words : List ℕ) (count : ℕ) (memo words′ : List ℕ) (count′ : ℕ) (memo′ : List ℕ) : Type 0 where
-    pub adds : (g : PushdownGame) (es : List Entry) (n : ℕ) (s : Growing) → Setting g es n sizes rules places work old
-        → Filled n words count s → Memoed g es birthdate n memo s → Finished g es birthdate n (list g es) s words′ count′ memo′
+  pub record Adds (list kept : Entries) (words : List ℕ) (count : ℕ) (memo words′ : List ℕ) (count′ : ℕ) (memo′ : List ℕ) : Type 0 where
+    pub adds : (g : PushdownGame) (es : List Entry) (n : ℕ) (s : Growing) → In g es n
+        → Filled n words count s → Memoed g es birthdate n memo s → Knows kept g es n s
+        → Finished g es birthdate n (list g es) s words′ count′ memo′
 
-  -- And of a list `rest` is still to come.
-  pub record Turning (whole rest : Entries) (words : List ℕ) (count : ℕ) (memo words′ : List ℕ) (count′ : ℕ) (memo′ : List ℕ) : Type 0 where
-    pub turns : (g : PushdownGame) (es : List Entry) (n : ℕ) (s : Growing) → Setting g es n sizes rules places work old
-        → Filled n words count s → Memoed g es birthdate n memo s
-        → Going g es birthdate n (whole g es) s (rest g es) words′ count′ memo′
+  -- And of a list `rest` is still to come, with what is kept of the past for it.
+  pub record Turning (whole rest kept kept′ : Entries) (words : List ℕ) (count : ℕ) (memo words′ : List ℕ) (count′ : ℕ) (memo′ : List ℕ) : Type 0 where
+    pub turns : (g : PushdownGame) (es : List Entry) (n : ℕ) (s : Growing) → In g es n
+        → Filled n words count s → Memoed g es birthdate n memo s → Knows kept g es n s
+        → (c : Going g es birthdate n (whole g es) s (rest g es) words′ count′ memo′) × Knows kept′ g es n (c .now)
 
-  pub starts : (list : Entries) (words : List ℕ) (count : ℕ) (memo : List ℕ) → Turning list list words count memo words count memo
-  starts list words count memo =
-      record { turns = λ g es n s h f m. record { now = s; same = refl; filled = f; memoed = m } }
+  -- of the past less is kept
+  abbrev pub Within : Entries → Entries → Type 0
+  Within small large = (g : PushdownGame) (es : List Entry) (n : ℕ) → In g es n → (e : Entry) → e ∈ small g (older birthdate es) → e ∈ large g (older birthdate es)
 
-  module _ {whole rest : Entries} {words : List ℕ} {count : ℕ} {memo words′ : List ℕ} {count′ : ℕ} {memo′ : List ℕ} (t : Turning whole rest words count memo words′ count′ memo′) where
+  knows-less : (small large : Entries) → Within small large → (g : PushdownGame) (es : List Entry) (n : ℕ) (s : Growing) → In g es n
+      → Knows large g es n s → Knows small g es n s
+  knows-less small large inside g es n s h k =
+      record { marked = k .marked; past = λ some. (k .past some .0, λ e m. k .past some .1 e (inside g es n h e m)) }
+
+  pub starts : (list kept : Entries) (words : List ℕ) (count : ℕ) (memo : List ℕ) → Turning list list kept kept words count memo words count memo
+  starts list kept words count memo =
+      record { turns = λ g es n s h f m k. (record { now = s; same = refl; filled = f; memoed = m }, k) }
+
+  module _ {whole rest kept kept′ : Entries} {words : List ℕ} {count : ℕ} {memo words′ : List ℕ} {count′ : ℕ} {memo′ : List ℕ} (t : Turning whole rest kept kept′ words count memo words′ count′ memo′) where
     -- what is to come in other words
-    pub becomes : (rest′ : Entries)
-        → ((g : PushdownGame) (es : List Entry) (n : ℕ) → Setting g es n sizes rules places work old → rest g es ≡ rest′ g es)
-        → Turning whole rest′ words count memo words′ count′ memo′
-    becomes rest′ e =
+    pub becomes : (rest′ : Entries) → ((g : PushdownGame) (es : List Entry) (n : ℕ) → In g es n → rest g es ≡ rest′ g es)
+        → (kept″ : Entries) → Within kept″ kept′
+        → Turning whole rest′ kept kept″ words count memo words′ count′ memo′
+    becomes rest′ e kept″ inside =
         record {
           turns =
-              λ g es n s h f m.
-              let c = t .turns g es n s h f m in
-              record {
-                now = c .now;
-                same = c .same ∙ ap (λ (l : List Entry). growing n l (c .now)) (e g es n h);
-                filled = c .filled;
-                memoed = c .memoed;
-              };
+              λ g es n s h f m k.
+              let r = t .turns g es n s h f m k in
+              let c = r .0 in (
+                record {
+                  now = c .now;
+                  same = c .same ∙ ap (λ (l : List Entry). growing n l (c .now)) (e g es n h);
+                  filled = c .filled;
+                  memoed = c .memoed;
+                },
+                knows-less kept″ kept′ inside g es n (c .now) h (r .1),
+              );
         }
 
     -- a part of what is to come is added
     pub goes-on : (part rest′ : Entries)
-        → ((g : PushdownGame) (es : List Entry) (n : ℕ) → Setting g es n sizes rules places work old → rest g es ≡ part g es ++ rest′ g es)
-        → {words″ : List ℕ} {count″ : ℕ} {memo″ : List ℕ} → Adds part words′ count′ memo′ words″ count″ memo″
-        → Turning whole rest′ words count memo words″ count″ memo″
-    goes-on part rest′ split d =
+        → ((g : PushdownGame) (es : List Entry) (n : ℕ) → In g es n → rest g es ≡ part g es ++ rest′ g es)
+        → (less kept″ : Entries) → Within less kept′ → Within kept″ kept′
+        → {words″ : List ℕ} {count″ : ℕ} {memo″ : List ℕ} → Adds part less words′ count′ memo′ words″ count″ memo″
+        → Turning whole rest′ kept kept″ words count memo words″ count″ memo″
+    goes-on part rest′ split less kept″ inside inside″ d =
         record {
           turns =
-              λ g es n s h f m.
-              let c = t .turns g es n s h f m in
-              let e = d .adds g es n (c .now) h (c .filled) (c .memoed) in
-              record {
-                now = growing n (part g es) (c .now);
-                same =
-                    c .same ∙ ap (λ (l : List Entry). growing n l (c .now)) (split g es n h)
-                    ∙ growing-append n (part g es) (rest′ g es) (c .now);
-                filled = e .filled;
-                memoed = e .memoed;
-              };
+              λ g es n s h f m k.
+              let r = t .turns g es n s h f m k in
+              let c = r .0 in
+              let e = d .adds g es n (c .now) h (c .filled) (c .memoed) (knows-less less kept′ inside g es n (c .now) h (r .1)) in
+              let after = knows-less kept″ kept′ inside″ g es n (c .now) h (r .1) in (
+                record {
+                  now = growing n (part g es) (c .now);
+                  same =
+                      c .same ∙ ap (λ (l : List Entry). growing n l (c .now)) (split g es n h)
+                      ∙ growing-append n (part g es) (rest′ g es) (c .now);
+                  filled = e .filled;
+                  memoed = e .memoed;
+                },
+                record {
+                  marked = after .marked;
+                  past = past-stays birthdate n late (kept″ g (older birthdate es)) (part g es) (c .now) (after .past);
+                },
+              );
         }
 
-    -- nothing is to come
-    pub ends : ((g : PushdownGame) (es : List Entry) (n : ℕ) → Setting g es n sizes rules places work old → rest g es ≡ [])
-        → Adds whole words count memo words′ count′ memo′
+    -- what is to come changes nothing
+    no-more : ((g : PushdownGame) (es : List Entry) (n : ℕ) (now : Growing) → In g es n → Filled n words′ count′ now → Knows kept′ g es n now
+        → growing n (rest g es) now ≡ now)
+        → Adds whole kept words count memo words′ count′ memo′
+    no-more same =
+        record {
+          adds =
+              λ g es n s h f m k.
+              let r = t .turns g es n s h f m k in
+              let c = r .0 in
+              let e : growing n (whole g es) s ≡ c .now = c .same ∙ same g es n (c .now) h (c .filled) (r .1) in
+              record { filled = rw e (c .filled); memoed = rw e (c .memoed) };
+        }
+
+    -- since there is nothing
+    pub ends : ((g : PushdownGame) (es : List Entry) (n : ℕ) → In g es n → rest g es ≡ [])
+        → Adds whole kept words count memo words′ count′ memo′
     unfolding growing
-    ends none =
-        record {
-          adds =
-              λ g es n s h f m.
-              let c = t .turns g es n s h f m in
-              let e : growing n (whole g es) s ≡ c .now = c .same ∙ ap (λ (l : List Entry). growing n l (c .now)) (none g es n h) in
-              record { filled = rw e (c .filled); memoed = rw e (c .memoed) };
-        }
+    ends none = no-more (λ g es n now h f k. ap (λ (l : List Entry). growing n l now) (none g es n h))
 
-    -- the table is full
-    pub stops : length words′ / 3 < count′ → Adds whole words count memo words′ count′ memo′
-    stops l =
-        record {
-          adds =
-              λ g es n s h f m.
-              let c = t .turns g es n s h f m in
-              let e : growing n (whole g es) s ≡ c .now =
-              c .same ∙ full-any n (rest g es) (c .now) (over-full n words′ count′ (c .now) (c .filled) l)
-              in
-              record { filled = rw e (c .filled); memoed = rw e (c .memoed) };
-        }
+    -- since older entries gave it
+    pub passes : 0 < late
+        → ((g : PushdownGame) (es : List Entry) (n : ℕ) → In g es n
+        → ((e : Entry) → e ∈ es → (e ∈ older birthdate es) ⊎ (has (getD fresh (e .letter) 0) (e .state) ≡ true))
+        → (e : Entry) → e ∈ rest g es → e ∈ kept′ g (older birthdate es))
+        → Adds whole kept words count memo words′ count′ memo′
+    passes some inside =
+        no-more
+        (λ g es n now h f k. held-passed n (rest g es) now (λ e m. k .past some .1 e (inside g es n h (k .marked) e m)))
+
+    -- since the table is full
+    pub stops : length words′ / 3 < count′ → Adds whole kept words count memo words′ count′ memo′
+    stops l = no-more (λ g es n now h f k. full-any n (rest g es) now (over-full n words′ count′ now f l))

@@ -1,8 +1,8 @@
--- The turns of a walk over entries that the memo has.
+-- The turns of a walk over entries that are passed over.
 use Prim.Native.Nat.{ℕ, _+_, _*_, _<_}
 use native.Mathlib.Omega.{arith}
 use mathlib.Core.Path.{_≡_, subst}
-use mathlib.Core.Logic.{⊎-elim}
+use mathlib.Core.Logic.{_⊎_, ⊎-elim}
 use mathlib.Core.Bool.{true, false}
 use mathlib.Core.List.{List}
 use lib.ListN.{getD}
@@ -13,14 +13,16 @@ use Rattle.game.specs.Sets.{union as unite}
 use Rattle.walk.specs.Memo.{lineAt}
 use Rattle.walk.specs.Walk.{Skipped}
 
-module _ (work memo : List ℕ) (tag rest union from end : ℕ) where
-  abbrev Has : ℕ → Type 0
-  Has k = (line : ℕ) × (lineAt memo line ≡ record { tag = tag; left = rest; union = unite union (getD work (k * 3 + 1) 0) })
+module _ (work memo : List ℕ) (tag rest union from end passing : ℕ) where
+  abbrev pub Has : ℕ → Type 0
+  Has k =
+      (getD work (k * 3) 0 < passing)
+      ⊎ ((line : ℕ) × (lineAt memo line ≡ record { tag = tag; left = rest; union = unite union (getD work (k * 3 + 1) 0) }))
 
-  pub begins : Skipped work memo tag rest union from end from
+  pub begins : Skipped work memo tag rest union from end passing from
   begins = record { after = omega arith; within = omega arith; finished = λ k l m. absurd (omega arith) }
 
-  pub skips : (i : ℕ) → Skipped work memo tag rest union from end i → i < end → Has i → Skipped work memo tag rest union from end (i + 1)
+  pub skips : (i : ℕ) → Skipped work memo tag rest union from end passing i → i < end → Has i → Skipped work memo tag rest union from end passing (i + 1)
   skips i s l has =
       record {
         after = omega (arith, s .after);

@@ -311,6 +311,7 @@ module _ (g : PushdownGame) (old : List Entry) (birthdate n : ℕ) (job : Job) (
       record {
         now = s;
         entered = h;
+        kept = λ es held. held;
         rest =
             ap (λ (l : List ℕ). growing n (map (given g old birthdate n job rules work) l) s)
             (skip-front f noEntry start old (omega (arith, pl .within, st .counted))

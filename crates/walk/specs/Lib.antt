@@ -7,3 +7,6 @@ pub mod RoundJobs
 pub mod RoundJobLaws
 pub mod Places
 pub mod Walk
+pub mod Past
+pub mod PastLaws
+pub mod RoundPast

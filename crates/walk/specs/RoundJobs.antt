@@ -17,8 +17,8 @@ use Rattle.walk.specs.Memo.{lineAt}
 use Rattle.walk.specs.Jobs.{subRuns, beginRuns}
 use Rattle.walk.specs.declared.runs.Job.{Job}
 
-abbrev pub jobWith : Sizes → ℕ → ℕ → ℕ → ℕ → ℕ → Bool → Job
-jobWith sizes p a birthdate r old abelards =
+abbrev pub jobWith : Sizes → ℕ → ℕ → ℕ → ℕ → ℕ → ℕ → Bool → Job
+jobWith sizes p a birthdate r old last abelards =
     record {
       state = p;
       letter = a;
@@ -26,10 +26,11 @@ jobWith sizes p a birthdate r old abelards =
       field = cond abelards 0 (r + 1);
       end = cond abelards (sizes .rulecount) (r + 1);
       count = old;
+      last = last;
     }
 
-abbrev pub jobOf : Sizes → ℕ → ℕ → ℕ → ℕ → ℕ → Job
-jobOf sizes p a birthdate r old = jobWith sizes p a birthdate r old (has (sizes .abelard) p)
+abbrev pub jobOf : Sizes → ℕ → ℕ → ℕ → ℕ → ℕ → ℕ → Job
+jobOf sizes p a birthdate r old last = jobWith sizes p a birthdate r old last (has (sizes .abelard) p)
 
 -- how many runs a rule has by their first transition: one, where it writes nothing
 unfoldable pub runsOf : List ℕ → ℕ → ℕ → ℕ

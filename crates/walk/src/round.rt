@@ -1,4 +1,8 @@
 // A round: what the runs of the old round give, head by head, rule by rule and run by run.
+use crate::fresh::LETTERS;
+use crate::fresh::last_fresh;
+use crate::fresh::late_of;
+use crate::fresh::set_fresh;
 use crate::memo::LINE;
 use crate::memo::LINES;
 use crate::places::PLACES;
@@ -15,6 +19,8 @@ use game::has_state;
 use rounds::next_rule;
 use table::EntryWords;
 ghost use mathlib.Core.Path.{_≡_};
+ghost use mathlib.Core.Logic.{_⊎_};
+ghost use mathlib.Core.Bool.{true};
 ghost use mathlib.Core.List.{List, map};
 ghost use Prim.Native.Nat.{ℕ, _+_, _*_, _<_, _≤_};
 ghost use Rattle.game.specs.Limits.{maxRules};
@@ -25,6 +31,10 @@ ghost use Rattle.game.specs.Held.{Held, Safe};
 ghost use Rattle.table.specs.Table.{Entry};
 ghost use Rattle.rounds.specs.Rounds.{entryAt, candidates};
 ghost use Rattle.rounds.specs.RoundLaws.{AllRanged};
+ghost use Rattle.rounds.specs.GrowingLaws.{HeldBy};
+ghost use Rattle.rounds.specs.Enumeration.{restRuns};
+ghost use Rattle.rounds.specs.Scans.{rulesBetween};
+ghost use Rattle.walk.specs.Past.{lateOf, older, Past, Aging, Marked, SettledFrom};
 ghost use Rattle.rounds.specs.Growing.{Growing, growing, partly};
 ghost use Rattle.rounds.specs.Filled.{Stored, Filled};
 ghost use Rattle.walk.specs.Jobs.{Able, Whole, Entered, Finished};
@@ -32,7 +42,8 @@ ghost use Rattle.walk.specs.Places.{Placing};
 ghost use Rattle.walk.specs.RoundJobs.{jobOf, runsOf, runRuns, Blank, RunsStart, RunsEnd};
 
 // The next round, added to a table that holds the old one as `work` does: the number of entries afterwards, or one more than
-// the table can hold. The memo is the round's own.
+// the table can hold. What the entries older than the last round give must be held already, where there was one. The memo is the
+// round's own.
 pub fn take_wide(
     sizes: Sizes,
     rules: &[u8],
@@ -44,21 +55,27 @@ pub fn take_wide(
     requires { ⌜ Safe sizes (now rules) × (0 < sizes .letters) × (old * 3 ≤ length (now work)) × (birthdate < 65536) ⌝ }
     ensures { λ r. ⌜ ((g : PushdownGame) (es : List Entry) (n : ℕ) → Held g sizes (now (rules .entry)) → Good g → AllRanged g es
         → Stored n (now (work .entry)) old es → Stored n (now (table .entry)) old es
+        → (1 < birthdate → HeldBy n (candidates g (older birthdate es) birthdate) (partly es))
         → Filled n (now (table .exit)) r (growing n (candidates g es birthdate) (partly es))) ⌝ }
     ensures { λ _. ⌜ length (now (table .exit)) ≡ length (now (table .entry)) ⌝ }
 {
     let mut places = [0usize; PLACES];
     set_places(&mut places, work, old, sizes.states, sizes.letters);
+    let late = late_of(birthdate);
+    let mut fresh = [0u32; LETTERS];
+    set_fresh(&mut fresh, work, old, late);
     let mut memo = [0u32; LINES * LINE];
     add_runs(
         sizes,
         rules,
         &places,
+        &fresh,
         work,
         table,
         &mut memo,
         old,
         birthdate,
+        late,
     )
 }
 
@@ -68,15 +85,18 @@ fn add_runs(
     sizes: Sizes,
     rules: &[u8],
     places: &[usize],
+    fresh: &[u32],
     work: &[u32],
     table: &mut [u32],
     memo: &mut [u32],
     old: usize,
     birthdate: u32,
+    late: u32,
 ) -> usize
     requires { ⌜ Safe sizes (now rules) × (0 < sizes .letters) × (old * 3 ≤ length (now work)) × (birthdate < 65536) ⌝ }
     ensures { λ r. ⌜ ((g : PushdownGame) (es : List Entry) (n : ℕ) → Held g sizes (now (rules .entry)) → Good g → AllRanged g es
-        → Stored n (now (work .entry)) old es → Stored n (now (table .entry)) old es → Placing g (now (work .entry)) old (now (places .entry)) → Blank (now (memo .entry))
+        → Stored n (now (work .entry)) old es → Stored n (now (table .entry)) old es → (1 < birthdate → HeldBy n (candidates g (older birthdate es) birthdate) (partly es))
+        → late ≡ lateOf birthdate → Marked (now (work .entry)) (now (fresh .entry)) late old → Placing g (now (work .entry)) old (now (places .entry)) → Blank (now (memo .entry))
         → Filled n (now (table .exit)) r (growing n (candidates g es birthdate) (partly es))) ⌝ }
     ensures { λ _. ⌜ length (now (table .exit)) ≡ length (now (table .entry)) ⌝ }
 {
@@ -91,11 +111,23 @@ fn add_runs(
         let a = (head % letters) as u8;
         let mut r = next_rule(rules, rulecount, 0, p, a);
         while r < rulecount {
-            let job = job_of(sizes, p, a, birthdate, r, old);
-            let end = runs_end(rules, places, r, old);
+            let job = job_of(sizes, rules, fresh, p, a, birthdate, r, old);
+            let end = runs_end(rules, places, r, old, job.last, late);
             let mut i = runs_start(rules, places, r, old);
             while i < end {
-                count = run_at(job, rules, places, work, table, memo, count, r, i);
+                count = run_at(
+                    job,
+                    rules,
+                    places,
+                    fresh,
+                    work,
+                    table,
+                    memo,
+                    count,
+                    r,
+                    i,
+                    late,
+                );
                 if size < count {
                     break 'round;
                 }
@@ -109,9 +141,19 @@ fn add_runs(
 }
 
 // The job of rule r of a head: Abelard's takes one run for each of his rules, Éloise's the rule by itself.
-fn job_of(sizes: Sizes, p: u8, a: u8, birthdate: u32, r: usize, old: usize) -> Job
-    requires { ⌜ (birthdate < 65536) × (r < maxRules) ⌝ }
-    ensures { λ x. ⌜ x ≡ jobOf sizes p a birthdate r old ⌝ }
+fn job_of(
+    sizes: Sizes,
+    rules: &[u8],
+    fresh: &[u32],
+    p: u8,
+    a: u8,
+    birthdate: u32,
+    r: usize,
+    old: usize,
+) -> Job
+    requires { ⌜ (birthdate < 65536) × (r < sizes .rulecount) × (sizes .rulecount * 6 ≤ length (now rules)) × (sizes .rulecount ≤ maxRules) ⌝ }
+    ensures { λ x. ⌜ x ≡ jobOf sizes p a birthdate r old (x .last) ⌝ }
+    ensures { λ x. ⌜ SettledFrom (now (rules .entry)) (now (fresh .entry)) (x .end) p a (x .last) ⌝ }
 {
     let first = (p as u32) + 256 * (a as u32) + 65536 * birthdate;
     if has_state(sizes.abelard, p) {
@@ -122,6 +164,7 @@ fn job_of(sizes: Sizes, p: u8, a: u8, birthdate: u32, r: usize, old: usize) -> J
             field: 0,
             end: sizes.rulecount,
             count: old,
+            last: last_fresh(rules, fresh, r, sizes.rulecount, p, a),
         };
     }
     Job {
@@ -131,10 +174,12 @@ fn job_of(sizes: Sizes, p: u8, a: u8, birthdate: u32, r: usize, old: usize) -> J
         field: (r as u32) + 1,
         end: r + 1,
         count: old,
+        last: last_fresh(rules, fresh, r, r + 1, p, a),
     }
 }
 
-// Where a rule's runs begin and end, by their first transition: there is one, where it writes nothing.
+// Where a rule's runs begin and end, by their first transition: there is one, where it writes nothing. They end at once where none of
+// them can have an entry of the last round, nor one of the job's later rules.
 fn runs_start(rules: &[u8], places: &[usize], r: usize, old: usize) -> usize
     requires { ⌜ (r + 1) * 6 ≤ length (now rules) ⌝ }
     ensures { λ x. ⌜ RunsStart (now (rules .entry)) (now (places .entry)) r old x ⌝ }
@@ -146,10 +191,13 @@ fn runs_start(rules: &[u8], places: &[usize], r: usize, old: usize) -> usize
     start_at(places, old, rules[at + 2], rules[at + 4])
 }
 
-fn runs_end(rules: &[u8], places: &[usize], r: usize, old: usize) -> usize
+fn runs_end(rules: &[u8], places: &[usize], r: usize, old: usize, last: usize, late: u32) -> usize
     requires { ⌜ (r + 1) * 6 ≤ length (now rules) ⌝ }
-    ensures { λ x. ⌜ RunsEnd (now (rules .entry)) (now (places .entry)) r old x ⌝ }
+    ensures { λ x. ⌜ ((0 < late) × (last ≤ r) × (x ≡ 0)) ⊎ RunsEnd (now (rules .entry)) (now (places .entry)) r old x ⌝ }
 {
+    if is_settled(last, r, late) {
+        return 0;
+    }
     let at = r * Game::RULE_STRIDE;
     if rules[at + 3] == 0 {
         return 1;
@@ -157,23 +205,37 @@ fn runs_end(rules: &[u8], places: &[usize], r: usize, old: usize) -> usize
     end_at(places, old, rules[at + 2], rules[at + 4])
 }
 
+// Whether neither rule r nor a later one of its job can have an entry of the last round, where there was a round before.
+fn is_settled(last: usize, r: usize, late: u32) -> bool
+    ensures { λ x. ⌜ (x ≡ true → (0 < late) × (last ≤ r)) ⌝ }
+{
+    if late == 0 {
+        return false;
+    }
+    last <= r
+}
+
 // Run i of rule r, with those of the job's later rules.
 fn run_at(
     job: Job,
     rules: &[u8],
     places: &[usize],
+    fresh: &[u32],
     work: &[u32],
     table: &mut [u32],
     memo: &mut [u32],
     count: usize,
     r: usize,
     i: usize,
+    late: u32,
 ) -> usize
     requires { ⌜ Able job (length (now rules)) (length (now work)) × (r < job .end) × (i < runsOf (now rules) r (job .count)) ⌝ }
     ensures { λ x. ⌜ ((g : PushdownGame) (old : List Entry) (birthdate n : ℕ) (s : Growing)
         → Entered g old birthdate n job (now (rules .entry)) (now (work .entry)) (now (table .entry)) count (now (memo .entry)) s
         → Placing g (now (work .entry)) (job .count) (now (places .entry))
+        → Aging g old birthdate job (now (fresh .entry))
         → Whole g job r
+        → Past birthdate n late (map (entryAt (job .state) (job .letter) birthdate (job .field)) (restRuns g (older birthdate old) (rulesBetween g (job .state) (job .letter) r (job .end)) 0)) s
         → Finished g old birthdate n
         (map (entryAt (job .state) (job .letter) birthdate (job .field)) (runRuns g old (job .state) (job .letter) (job .end) r i))
         s (now (table .exit)) x (now (memo .exit))) ⌝ }
@@ -183,7 +245,32 @@ fn run_at(
     let at = r * Game::RULE_STRIDE;
     if rules[at + 3] == 0 {
         let passed = joined(0, rules[at + 2]);
-        return rules_after(job, rules, places, work, table, memo, count, r, passed);
+        return rules_after(
+            job,
+            rules,
+            places,
+            fresh,
+            work,
+            table,
+            memo,
+            count,
+            r,
+            passed,
+            late,
+        );
     }
-    runs_with(job, rules, places, work, table, memo, count, r, i, 0)
+    runs_with(
+        job,
+        rules,
+        places,
+        fresh,
+        work,
+        table,
+        memo,
+        count,
+        r,
+        i,
+        0,
+        late,
+    )
 }

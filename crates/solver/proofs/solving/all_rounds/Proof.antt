@@ -1,66 +1,34 @@
 use native.Mathlib.Omega.{arith}
+use mathlib.Core.Path.{refl, sym}
+use Rattle.solver.proofs.Beginnings.{bounded, held-targets}
 use borrow.Author.Needs.{needs}
-use mathlib.Core.Path.{refl, sym, ap, _∙_}
-use Rattle.game.specs.Held.{safe}
-use Rattle.game.specs.declared.game.Sizes.{Sizes}
-use Rattle.rounds.specs.StoredRows.{long-of}
-use Rattle.solver.proofs.RoundsTaken.{leaving-at, zero-full, zero-stored, zero-fits}
 use Rattle.solver.proofs.solving.all_rounds.Statement.{statement}
 use Rattle.solver.proofs.solving.all_rounds.Tie as tie
+use Rattle.solver.proofs.solving.all_rounds.Reads as reads
+use Rattle.solver.proofs.solving.all_rounds.Lts as lts
+use Rattle.saturation.proofs.elements_of.Reads as elements-of-reads
+use Rattle.solver.proofs.areas.rounds_by.Reads as rounds-by-reads
 
-round-zero-requires : tie.Need-round-zero-requires
-round-zero-requires c κs = search needs
+-- src/solving.rt:89:9
+elements-of-requires : tie.Need-elements-of-requires
+elements-of-requires c κs = (bounded (c .before .before .before .before .pre .0 .1) .rules-fit, bounded (c .before .before .before .before .pre .0 .1) .targets-fit)
 
-give-up-requires : tie.Need-give-up-requires
-give-up-requires c κs = search needs
+-- src/solving.rt:90:5
+rounds-by-requires : tie.Need-rounds-by-requires
+rounds-by-requires c κs = (c .before .before .before .before .before .before .before .pre .0, c .before .before .before .before .before .before .before .pre .1, c .before .before .before .before .before .before .before .pre .2, c .before .before .elements-of .ensures .1)
 
+-- src/solving.rt:77:1
 same-length : tie.Need-same-length
 same-length c = search needs
 
+-- src/solving.rt:77:1
 same-length-2 : tie.Need-same-length-2
 same-length-2 c = search needs
 
+-- src/solving.rt:77:1
 returns : tie.Need-returns
-returns c = λ g n h e. let f = (c .before .before .before .before .before .before .before .before .before .before .round-zero .ensures) .0 g n h e in (c .before .before .before .before .give-up .ensures) .0 ∙ leaving-at _ ((c .before .before .before .before .before .before .before .before .before .before .round-zero .ensures) .1) refl ∙ sym (zero-full g n _ _ f (omega (arith, c .before .before .before .before .before .before .before .if1 .taken, long-of n _ _ _ f)) _ _)
-
-narrow-rounds-requires : tie.Need-narrow-rounds-requires
-narrow-rounds-requires c κs = (safe (c .before .before .before .before .before .before .before .before .before .before .before .before .before .pre .0 .0) _ _ (c .before .before .before .before .before .before .before .before .before .before .before .before .before .pre .0 .1 .held), omega (arith, ap (λ (s : Sizes). s .letters) (c .before .before .before .before .before .before .before .before .before .before .before .before .before .pre .0 .1 .held .sized), c .before .before .before .before .before .before .before .before .before .before .before .before .before .pre .0 .1 .good .ranged .bottom), (c .before .before .before .before .before .before .before .round-zero .ensures) .1 ∙ c .before .before .before .before .before .before .before .before .before .before .before .before .before .pre .1, omega (arith, c .before .before .before .before .if1 .left))
-
-same-length-3 : tie.Need-same-length-3
-same-length-3 c = search needs
-
-same-length-4 : tie.Need-same-length-4
-same-length-4 c = search needs
-
-returns-2 : tie.Need-returns-2
-returns-2 c = λ g n h e. let f = (c .before .before .before .before .before .before .before .before .before .before .before .before .round-zero .ensures) .0 g n h e in (c .before .before .before .before .narrow-rounds .ensures) g n (h .held) (h .good) (zero-stored g n _ _ f (omega (arith, c .before .before .before .before .before .before .before .before .before .if1 .left, long-of n _ _ _ f))) ∙ leaving-at _ ((c .before .before .before .before .before .before .before .before .before .before .before .before .round-zero .ensures) .1) refl ∙ sym (zero-fits g n _ _ f (omega (arith, c .before .before .before .before .before .before .before .before .before .if1 .left, long-of n _ _ _ f)) _ _)
-
-wide-rounds-requires : tie.Need-wide-rounds-requires
-wide-rounds-requires c κs = (safe (c .before .before .before .before .before .before .before .before .before .before .before .before .before .pre .0 .0) _ _ (c .before .before .before .before .before .before .before .before .before .before .before .before .before .pre .0 .1 .held), omega (arith, ap (λ (s : Sizes). s .letters) (c .before .before .before .before .before .before .before .before .before .before .before .before .before .pre .0 .1 .held .sized), c .before .before .before .before .before .before .before .before .before .before .before .before .before .pre .0 .1 .good .ranged .bottom), (c .before .before .before .before .before .before .before .round-zero .ensures) .1 ∙ c .before .before .before .before .before .before .before .before .before .before .before .before .before .pre .1, omega (arith, c .before .before .before .before .if1 .left))
-
-same-length-5 : tie.Need-same-length-5
-same-length-5 c = search needs
-
-same-length-6 : tie.Need-same-length-6
-same-length-6 c = search needs
-
-returns-3 : tie.Need-returns-3
-returns-3 c = λ g n h e. let f = (c .before .before .before .before .before .before .before .before .before .before .before .before .round-zero .ensures) .0 g n h e in (c .before .before .before .before .wide-rounds .ensures) g n (h .held) (h .good) (zero-stored g n _ _ f (omega (arith, c .before .before .before .before .before .before .before .before .before .if1 .left, long-of n _ _ _ f))) ∙ leaving-at _ ((c .before .before .before .before .before .before .before .before .before .before .before .before .round-zero .ensures) .1) refl ∙ sym (zero-fits g n _ _ f (omega (arith, c .before .before .before .before .before .before .before .before .before .if1 .left, long-of n _ _ _ f)) _ _)
+returns c = λ g m given zeros. c .before .before .before .before .rounds-by .ensures g m given zeros (λ few. c .before .before .before .before .before .before .before .elements-of .ensures .0 g (held-targets given) few)
 
 pub all-rounds-spec : {M : Type 1} → statement M
 all-rounds-spec =
-    tie.close
-    (tie.spec
-    round-zero-requires
-    give-up-requires
-    same-length
-    same-length-2
-    returns
-    narrow-rounds-requires
-    same-length-3
-    same-length-4
-    returns-2
-    wide-rounds-requires
-    same-length-5
-    same-length-6
-    returns-3)
+    tie.close (tie.spec elements-of-requires rounds-by-requires same-length same-length-2 returns)

@@ -5,7 +5,7 @@ use borrow.Author.Tests.{not-true, not-false}
 use lib.ListN.{length}
 use Rattle.game.specs.Held.{was-read}
 use Rattle.table.specs.Table.{entryStride}
-use Rattle.solver.proofs.Answers.{no-file, unequal, out-of-form, lent, whole-entries}
+use Rattle.solver.proofs.Answers.{short, no-file, unequal, out-of-form, lent, whole-entries}
 use borrow.Author.Needs.{needs}
 use Rattle.solver.proofs.solving.solve.Statement.{statement}
 use Rattle.solver.proofs.solving.solve.Tie as tie
@@ -60,7 +60,7 @@ returns-3 : tie.Need-returns-3
 returns-3 c = let x = was-read _ _ (c .before .before .before .before .before .read .ensures) (c .before .before .before .enum-told .given .1) in out-of-form _ _ _ (c .before .before .before .before .before .before .before .before .before .before .before .before .clear .ensures) (c .before .before .before .before .before .before .before .before .clear2 .ensures) (x .game) (x .reads) (c .before .before .if1 .left) (sym (c .before .is-length .ensures) ∙ not-true _ (c .if2 .taken))
 
 solve-game-requires : tie.Need-solve-game-requires
-solve-game-requires c κs = let x = was-read _ _ (c .before .before .before .before .before .before .before .before .read .ensures) (c .before .before .before .before .before .before .enum-told .given .1) in ((x .game, x .stores, x .well), c .before .before .before .before .before .if1 .left)
+solve-game-requires c κs = let x = was-read _ _ (c .before .before .before .before .before .before .before .before .read .ensures) (c .before .before .before .before .before .before .enum-told .given .1) in ((x .game, x .stores, x .well), c .before .before .before .before .before .if1 .left, short _ (sym (c .before .before .before .before .is-length .ensures) ∙ not-false _ (c .before .before .before .if2 .left)))
 
 same-length-7 : tie.Need-same-length-7
 same-length-7 c = search needs

@@ -14,7 +14,7 @@ slice-aggregate-all-rounds-2 : tie.Need-slice-aggregate-all-rounds-2
 slice-aggregate-all-rounds-2 c = search needs
 
 all-rounds-requires : tie.Need-all-rounds-requires
-all-rounds-requires c κs = ((c .before .before .before .before .before .before .before .before .before .pre .0 .0, given _ (c .before .before .before .before .before .before .before .before .before .pre .0 .0) (c .before .before .before .before .before .before .before .before .before .pre .0 .1) (c .before .before .before .before .before .before .before .before .before .pre .0 .2) _ (c .before .before .before .before .before .before .sizes .ensures)), c .before .before .before .before .before .before .before .before .before .pre .1)
+all-rounds-requires c κs = ((c .before .before .before .before .before .before .before .before .before .pre .0 .0, given _ (c .before .before .before .before .before .before .before .before .before .pre .0 .0) (c .before .before .before .before .before .before .before .before .before .pre .0 .1) (c .before .before .before .before .before .before .before .before .before .pre .0 .2) _ (c .before .before .before .before .before .before .sizes .ensures)), c .before .before .before .before .before .before .before .before .before .pre .1, c .before .before .before .before .before .before .before .before .before .pre .2)
 
 same-length : tie.Need-same-length
 same-length c = search needs

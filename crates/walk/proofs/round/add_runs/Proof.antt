@@ -2,7 +2,8 @@
 -- list from where the loop began is growing it by the rest from now (`Turning`), whatever game the areas stand for. Runs that begin
 -- with an entry of another head give nothing, so that they are taken from the first entry of the head to its last. A loop that ends
 -- has added its list, which is one part of the list around it. Once an entry was beyond the table nothing changes any more, so that
--- each of the three lists is added where the nest is left. What falls is how many runs, rules and heads are left.
+-- each of the three lists is added where the nest is left. With each list goes what older entries give of it, which is held, so that
+-- a job without an entry of the last round is passed over. What falls is how many runs, rules and heads are left.
 -- Assumes what the contract requires.
 use Prim.Native.Nat.{_*_, _-_, _/_, _<_, _≤_}
 use mathlib.Core.Path.{_≡_, refl, ap, _∙_}
@@ -12,29 +13,31 @@ use lib.ListN.{length}
 use Rattle.walk.specs.RoundJobs.{runsOf}
 use Rattle.game.specs.Game.{ofHead}
 use Rattle.game.specs.Stored.{ruleAt}
-use Rattle.walk.proofs.Rounding.{runsFrom, rulesFrom, headsFrom, Turning, starts, becomes, ends, stops}
+use Rattle.walk.proofs.Rounding.{runsFrom, rulesFrom, headsFrom, jobEntries, Turning, starts, becomes, ends, stops}
 use Rattle.rounds.specs.ScanLaws.{few-heads, head-at}
-use Rattle.walk.proofs.RoundTurns.{at-rule, at-able, runs-within, runs-begin, runs-ended, rules-next, rules-none, heads-none, run-turn, job-turn, head-turn, round-filled}
+use Rattle.walk.proofs.FirstRuns.{runs-within}
+use Rattle.walk.proofs.RoundTurns.{at-rule, at-able, runs-begin, rules-next, past-next, rules-none, heads-none}
+use Rattle.walk.proofs.Nest.{run-turn, runs-done, job-turn, head-turn, round-filled}
 use Rattle.walk.proofs.round.add_runs.Statement.{statement}
 use Rattle.walk.proofs.round.add_runs.Tie as tie
 
 abbrev Inv-loop2 : tie.InvT-loop2
-Inv-loop2 sizes rules places work table₀ memo₀ old birthdate size letters heads rulecount count₀ head p a r job end i₀ table memo count i = (length table ≡ length table₀) × (length memo ≡ length memo₀) × Turning sizes rules places work old birthdate (runsFrom birthdate job r (runsOf rules r old) 0) (runsFrom birthdate job r (runsOf rules r old) i) table₀ count₀ memo₀ table count memo
+Inv-loop2 sizes rules places fresh work table₀ memo₀ old birthdate late size letters heads rulecount count₀ head p a r job end i₀ table memo count i = (length table ≡ length table₀) × (length memo ≡ length memo₀) × Turning sizes rules places fresh work old birthdate late (runsFrom birthdate job r (runsOf rules r old) 0) (runsFrom birthdate job r (runsOf rules r old) i) (jobEntries birthdate p a r) (jobEntries birthdate p a r) table₀ count₀ memo₀ table count memo
 
 abbrev μ-loop2 : tie.MeasureT-loop2
-μ-loop2 sizes rules places work table₀ memo₀ old birthdate size letters heads rulecount count₀ head p a r job end i₀ table memo count i = end - i
+μ-loop2 sizes rules places fresh work table₀ memo₀ old birthdate late size letters heads rulecount count₀ head p a r job end i₀ table memo count i = end - i
 
 abbrev Inv-loop : tie.InvT-loop
-Inv-loop sizes rules places work table₀ memo₀ old birthdate size letters heads rulecount count₀ head p a r₀ table memo count r = (length table ≡ length table₀) × (length memo ≡ length memo₀) × (r ≤ rulecount) × (r < rulecount → ofHead p a (ruleAt rules (r * 6) 0) ≡ true) × Turning sizes rules places work old birthdate (rulesFrom birthdate p a 0) (rulesFrom birthdate p a r) table₀ count₀ memo₀ table count memo
+Inv-loop sizes rules places fresh work table₀ memo₀ old birthdate late size letters heads rulecount count₀ head p a r₀ table memo count r = (length table ≡ length table₀) × (length memo ≡ length memo₀) × (r ≤ rulecount) × (r < rulecount → ofHead p a (ruleAt rules (r * 6) 0) ≡ true) × Turning sizes rules places fresh work old birthdate late (rulesFrom birthdate p a 0) (rulesFrom birthdate p a r) (rulesFrom birthdate p a 0) (rulesFrom birthdate p a r) table₀ count₀ memo₀ table count memo
 
 abbrev μ-loop : tie.MeasureT-loop
-μ-loop sizes rules places work table₀ memo₀ old birthdate size letters heads rulecount count₀ head p a r₀ table memo count r = rulecount - r
+μ-loop sizes rules places fresh work table₀ memo₀ old birthdate late size letters heads rulecount count₀ head p a r₀ table memo count r = rulecount - r
 
 abbrev Inv-round : tie.InvT-round
-Inv-round sizes rules places work table₀ memo₀ old birthdate size letters heads rulecount count₀ head₀ table memo count head = (length table ≡ length table₀) × (length memo ≡ length memo₀) × Turning sizes rules places work old birthdate (headsFrom birthdate letters heads 0) (headsFrom birthdate letters heads head) table₀ count₀ memo₀ table count memo
+Inv-round sizes rules places fresh work table₀ memo₀ old birthdate late size letters heads rulecount count₀ head₀ table memo count head = (length table ≡ length table₀) × (length memo ≡ length memo₀) × Turning sizes rules places fresh work old birthdate late (headsFrom birthdate letters heads 0) (headsFrom birthdate letters heads head) (headsFrom birthdate letters heads 0) (headsFrom birthdate letters heads head) table₀ count₀ memo₀ table count memo
 
 abbrev μ-round : tie.MeasureT-round
-μ-round sizes rules places work table₀ memo₀ old birthdate size letters heads rulecount count₀ head₀ table memo count head = heads - head
+μ-round sizes rules places fresh work table₀ memo₀ old birthdate late size letters heads rulecount count₀ head₀ table memo count head = heads - head
 
 cast-letters : tie.Need-cast-letters Inv-loop2 μ-loop2 Inv-loop μ-loop Inv-round μ-round
 cast-letters c = omega (arith, c .struct-known .given)
@@ -43,45 +46,43 @@ cast-heads : tie.Need-cast-heads Inv-loop2 μ-loop2 Inv-loop μ-loop Inv-round �
 cast-heads c = omega (arith, c .struct-known2 .given)
 
 mul-heads : tie.Need-mul-heads Inv-loop2 μ-loop2 Inv-loop μ-loop Inv-round μ-round
-mul-heads c = omega (arith, few-heads _ (c .before .before .before .before .before .before .before .args .sizes .letters) (c .before .before .before .before .before .before .before .pre .0 .control) (omega (arith, c .before .struct-known .given)))
+mul-heads c = omega (arith, few-heads _ (c .before .before .before .before .before .before .before .before .args .sizes .letters) (c .before .before .before .before .before .before .before .before .pre .0 .control) (omega (arith, c .before .struct-known .given)))
 
 round-holds : tie.Need-round-holds Inv-loop2 μ-loop2 Inv-loop μ-loop Inv-round μ-round
-round-holds c = (refl, refl, starts _ _ _ _ _ _ _ _ _ _)
+round-holds c = (refl, refl, starts _ _ _ _ _ _ _ _ _ _ _ _ _)
 
 div-p : tie.Need-div-p Inv-loop2 μ-loop2 Inv-loop μ-loop Inv-round μ-round
-div-p c = c .before .before .before .before .before .before .before .before .before .pre .1
+div-p c = c .before .before .before .before .before .before .before .before .before .before .pre .1
 
 cast-p : tie.Need-cast-p Inv-loop2 μ-loop2 Inv-loop μ-loop Inv-round μ-round
-cast-p c = omega (arith, c .before .before .before .before .before .before .before .before .before .pre .0 .control, head-at _ _ _ (c .before .before .before .before .before .before .before .before .before .pre .1) (c .round-test .taken) .0)
+cast-p c = omega (arith, c .before .before .before .before .before .before .before .before .before .before .pre .0 .control, head-at _ _ _ (c .before .before .before .before .before .before .before .before .before .before .pre .1) (c .round-test .taken) .0)
 
 rem-a : tie.Need-rem-a Inv-loop2 μ-loop2 Inv-loop μ-loop Inv-round μ-round
-rem-a c = c .before .before .before .before .before .before .before .before .before .pre .1
+rem-a c = c .before .before .before .before .before .before .before .before .before .before .pre .1
 
 cast-a : tie.Need-cast-a Inv-loop2 μ-loop2 Inv-loop μ-loop Inv-round μ-round
-cast-a c = omega (arith, c .before .before .before .struct-known .given, head-at _ _ _ (c .before .before .before .before .before .before .before .before .before .pre .1) (c .round-test .taken) .1)
+cast-a c = omega (arith, c .before .before .before .struct-known .given, head-at _ _ _ (c .before .before .before .before .before .before .before .before .before .before .pre .1) (c .round-test .taken) .1)
 
-next-rule-requires :
-    tie.Need-next-rule-requires Inv-loop2 μ-loop2 Inv-loop μ-loop Inv-round μ-round
-next-rule-requires c κs = (c .before .before .before .before .before .before .before .before .before .pre .0 .fit, omega arith, c .before .before .before .before .before .before .before .before .before .pre .0 .few)
+next-rule-requires : tie.Need-next-rule-requires Inv-loop2 μ-loop2 Inv-loop μ-loop Inv-round μ-round
+next-rule-requires c κs = (c .before .before .before .before .before .before .before .before .before .before .pre .0 .fit, omega arith, c .before .before .before .before .before .before .before .before .before .before .pre .0 .few)
 
 loop-holds : tie.Need-loop-holds Inv-loop2 μ-loop2 Inv-loop μ-loop Inv-round μ-round
-loop-holds c = let next = c .next-rule .ensures in (refl, refl, next .within, next .found, becomes _ _ _ _ _ _ (starts _ _ _ _ _ _ _ _ _ _) _ (λ g es n h. rules-next g es n _ _ _ _ _ h _ _ _ 0 _ next))
+loop-holds c = let next = c .next-rule .ensures in (refl, refl, next .within, next .found, becomes _ _ _ _ _ _ _ _ (starts _ _ _ _ _ _ _ _ _ _ _ _ _) _ (λ g es n h. rules-next g es n _ _ _ _ _ h _ es _ _ 0 _ next) _ (λ g es n h. past-next g es n _ _ _ _ _ h _ _ _ 0 _ next))
 
 job-of-requires : tie.Need-job-of-requires Inv-loop2 μ-loop2 Inv-loop μ-loop Inv-round μ-round
-job-of-requires c κs = (c .before .before .before .before .before .before .before .before .before .before .before .before .pre .3, omega (arith, c .before .before .before .before .before .before .before .before .before .before .before .before .pre .0 .few, c .loop-test .taken))
+job-of-requires c κs = (c .before .before .before .before .before .before .before .before .before .before .before .before .before .pre .3, c .loop-test .taken, c .before .before .before .before .before .before .before .before .before .before .before .before .before .pre .0 .fit, c .before .before .before .before .before .before .before .before .before .before .before .before .before .pre .0 .few)
 
 runs-end-requires : tie.Need-runs-end-requires Inv-loop2 μ-loop2 Inv-loop μ-loop Inv-round μ-round
-runs-end-requires c κs = omega (arith, c .before .before .before .before .before .before .before .before .before .before .before .before .before .pre .0 .fit, c .before .loop-test .taken)
+runs-end-requires c κs = omega (arith, c .before .before .before .before .before .before .before .before .before .before .before .before .before .before .pre .0 .fit, c .before .loop-test .taken)
 
-runs-start-requires :
-    tie.Need-runs-start-requires Inv-loop2 μ-loop2 Inv-loop μ-loop Inv-round μ-round
-runs-start-requires c κs = omega (arith, c .before .before .before .before .before .before .before .before .before .before .before .before .before .before .pre .0 .fit, c .before .before .loop-test .taken)
+runs-start-requires : tie.Need-runs-start-requires Inv-loop2 μ-loop2 Inv-loop μ-loop Inv-round μ-round
+runs-start-requires c κs = omega (arith, c .before .before .before .before .before .before .before .before .before .before .before .before .before .before .before .pre .0 .fit, c .before .before .loop-test .taken)
 
 loop2-holds : tie.Need-loop2-holds Inv-loop2 μ-loop2 Inv-loop μ-loop Inv-round μ-round
-loop2-holds c = let at = at-rule _ _ _ _ (c .before .before .before .before .before .before .before .round .head) (c .before .before .before .before .loop .r) _ _ (c .before .before .before .before .before .before .before .before .before .before .before .before .before .before .before .pre .1) (c .before .before .before .before .before .before .round-test .taken) (c .before .before .before .loop-test .taken) (c .before .before .before .before .loop .inv .3) (c .before .before .job-of .ensures) refl in (refl, refl, becomes _ _ _ _ _ _ (starts _ _ _ _ _ _ _ _ _ _) _ (λ g es n h. runs-begin g es n _ _ _ _ _ h _ _ _ _ _ _ at _ (c .runs-start .ensures)))
+loop2-holds c = let at = at-rule _ _ _ _ _ (c .before .before .before .before .before .before .before .round .head) (c .before .before .before .before .loop .r) _ _ (c .before .before .before .before .before .before .before .before .before .before .before .before .before .before .before .before .pre .1) (c .before .before .before .before .before .before .round-test .taken) (c .before .before .before .loop-test .taken) (c .before .before .before .before .loop .inv .3) (c .before .before .job-of .ensures .0) (c .before .before .job-of .ensures .1) refl in (refl, refl, becomes _ _ _ _ _ _ _ _ (starts _ _ _ _ _ _ _ _ _ _ _ _ _) _ (λ g es n h. runs-begin g es n _ _ _ _ _ h _ _ _ _ _ _ _ at _ (c .runs-start .ensures)) _ (λ g es n h e m. m))
 
 run-at-requires : tie.Need-run-at-requires Inv-loop2 μ-loop2 Inv-loop μ-loop Inv-round μ-round
-run-at-requires c κs = let able = at-able _ _ (c .before .before .before .before .before .before .before .before .before .before .before .before .before .before .before .before .before .before .before .args .work .now) _ _ _ _ _ _ (c .before .before .before .before .before .before .before .before .before .before .before .before .before .before .before .before .before .before .before .pre .0) (c .before .before .before .before .before .before .before .before .before .before .before .before .before .before .before .before .before .before .before .pre .2) (c .before .before .before .before .before .before .before .loop-test .taken) (c .before .before .before .before .before .before .job-of .ensures) in (able .0, able .1, omega (arith, c .before .before .loop2-test .taken, runs-within _ _ _ _ _ (c .before .before .before .before .before .runs-end .ensures), ap (runsOf (c .before .before .before .before .before .before .before .before .before .before .before .before .before .before .before .before .before .before .before .args .rules .now) (c .before .before .before .before .before .before .before .before .loop .r)) (able .3)))
+run-at-requires c κs = let able = at-able _ _ (c .before .before .before .before .before .before .before .before .before .before .before .before .before .before .before .before .before .before .before .before .args .work .now) _ _ _ _ _ _ (c .before .before .before .before .before .before .before .before .before .before .before .before .before .before .before .before .before .before .before .before .pre .0) (c .before .before .before .before .before .before .before .before .before .before .before .before .before .before .before .before .before .before .before .before .pre .2) (c .before .before .before .before .before .before .before .loop-test .taken) (c .before .before .before .before .before .before .job-of .ensures .0) in (able .0, able .1, omega (arith, c .before .before .loop2-test .taken, runs-within _ _ _ _ _ _ _ (c .before .before .before .before .before .runs-end .ensures), ap (runsOf (c .before .before .before .before .before .before .before .before .before .before .before .before .before .before .before .before .before .before .before .before .args .rules .now) (c .before .before .before .before .before .before .before .before .loop .r)) (able .3)))
 
 add-i : tie.Need-add-i Inv-loop2 μ-loop2 Inv-loop μ-loop Inv-round μ-round
 add-i c = omega (arith, c .before .before .before .before .before .before .before .before .loop2-test .taken)
@@ -90,26 +91,25 @@ loop2-less : tie.Need-loop2-less Inv-loop2 μ-loop2 Inv-loop μ-loop Inv-round �
 loop2-less c = omega (arith, c .before .before .before .before .before .before .before .before .loop2-test .taken)
 
 loop2-again : tie.Need-loop2-again Inv-loop2 μ-loop2 Inv-loop μ-loop Inv-round μ-round
-loop2-again c = let at = at-rule _ _ _ _ (c .before .before .before .before .before .before .before .before .before .before .before .before .before .before .before .before .before .round .head) (c .before .before .before .before .before .before .before .before .before .before .before .before .before .before .loop .r) _ _ (c .before .before .before .before .before .before .before .before .before .before .before .before .before .before .before .before .before .before .before .before .before .before .before .before .before .pre .1) (c .before .before .before .before .before .before .before .before .before .before .before .before .before .before .before .before .round-test .taken) (c .before .before .before .before .before .before .before .before .before .before .before .before .before .loop-test .taken) (c .before .before .before .before .before .before .before .before .before .before .before .before .before .before .loop .inv .3) (c .before .before .before .before .before .before .before .before .before .before .before .before .job-of .ensures) refl in (c .before .before .before .before .before .run-at .ensures .1 .0 ∙ c .before .before .before .before .before .before .before .before .before .loop2 .inv .0, c .before .before .before .before .before .run-at .ensures .1 .1 ∙ c .before .before .before .before .before .before .before .before .before .loop2 .inv .1, run-turn _ _ _ _ _ _ (c .before .before .before .before .before .before .before .before .before .before .before .before .before .before .before .before .before .before .before .before .before .before .before .before .before .pre .3) _ _ _ _ _ at _ (c .before .before .before .before .before .before .before .before .before .loop2 .inv .2) (omega (arith, c .before .before .before .before .before .before .before .before .loop2-test .taken, runs-within _ _ _ _ _ (c .before .before .before .before .before .before .before .before .before .before .before .runs-end .ensures))) (c .before .before .before .before .before .run-at .ensures .0))
+loop2-again c = let at = at-rule _ _ _ _ _ (c .before .before .before .before .before .before .before .before .before .before .before .before .before .before .before .before .before .round .head) (c .before .before .before .before .before .before .before .before .before .before .before .before .before .before .loop .r) _ _ (c .before .before .before .before .before .before .before .before .before .before .before .before .before .before .before .before .before .before .before .before .before .before .before .before .before .before .pre .1) (c .before .before .before .before .before .before .before .before .before .before .before .before .before .before .before .before .round-test .taken) (c .before .before .before .before .before .before .before .before .before .before .before .before .before .loop-test .taken) (c .before .before .before .before .before .before .before .before .before .before .before .before .before .before .loop .inv .3) (c .before .before .before .before .before .before .before .before .before .before .before .before .job-of .ensures .0) (c .before .before .before .before .before .before .before .before .before .before .before .before .job-of .ensures .1) refl in (c .before .before .before .before .before .run-at .ensures .1 .0 ∙ c .before .before .before .before .before .before .before .before .before .loop2 .inv .0, c .before .before .before .before .before .run-at .ensures .1 .1 ∙ c .before .before .before .before .before .before .before .before .before .loop2 .inv .1, run-turn _ _ _ _ _ _ _ _ (c .before .before .before .before .before .before .before .before .before .before .before .before .before .before .before .before .before .before .before .before .before .before .before .before .before .before .pre .3) _ _ _ _ _ at _ (c .before .before .before .before .before .before .before .before .before .loop2 .inv .2) (omega (arith, c .before .before .before .before .before .before .before .before .loop2-test .taken, runs-within _ _ _ _ _ _ _ (c .before .before .before .before .before .before .before .before .before .before .before .runs-end .ensures))) (c .before .before .before .before .before .run-at .ensures .0))
 
-next-rule-requires-2 :
-    tie.Need-next-rule-requires-2 Inv-loop2 μ-loop2 Inv-loop μ-loop Inv-round μ-round
-next-rule-requires-2 c κs = let able = at-able _ _ (c .before .before .before .before .before .before .before .before .before .before .before .before .before .before .before .before .before .args .work .now) _ _ _ _ _ _ (c .before .before .before .before .before .before .before .before .before .before .before .before .before .before .before .before .before .pre .0) (c .before .before .before .before .before .before .before .before .before .before .before .before .before .before .before .before .before .pre .2) (c .before .before .before .before .before .loop-test .taken) (c .before .before .before .before .job-of .ensures) in (c .before .before .before .before .before .before .before .before .before .before .before .before .before .before .before .before .before .pre .0 .fit, able .2, c .before .before .before .before .before .before .before .before .before .before .before .before .before .before .before .before .before .pre .0 .few)
+next-rule-requires-2 : tie.Need-next-rule-requires-2 Inv-loop2 μ-loop2 Inv-loop μ-loop Inv-round μ-round
+next-rule-requires-2 c κs = let able = at-able _ _ (c .before .before .before .before .before .before .before .before .before .before .before .before .before .before .before .before .before .before .args .work .now) _ _ _ _ _ _ (c .before .before .before .before .before .before .before .before .before .before .before .before .before .before .before .before .before .before .pre .0) (c .before .before .before .before .before .before .before .before .before .before .before .before .before .before .before .before .before .before .pre .2) (c .before .before .before .before .before .loop-test .taken) (c .before .before .before .before .job-of .ensures .0) in (c .before .before .before .before .before .before .before .before .before .before .before .before .before .before .before .before .before .before .pre .0 .fit, able .2, c .before .before .before .before .before .before .before .before .before .before .before .before .before .before .before .before .before .before .pre .0 .few)
 
 loop-less : tie.Need-loop-less Inv-loop2 μ-loop2 Inv-loop μ-loop Inv-round μ-round
-loop-less c = let able = at-able _ _ (c .before .before .before .before .before .before .before .before .before .before .before .before .before .before .before .before .before .before .args .work .now) _ _ _ _ _ _ (c .before .before .before .before .before .before .before .before .before .before .before .before .before .before .before .before .before .before .pre .0) (c .before .before .before .before .before .before .before .before .before .before .before .before .before .before .before .before .before .before .pre .2) (c .before .before .before .before .before .before .loop-test .taken) (c .before .before .before .before .before .job-of .ensures) in omega (arith, able .1, c .next-rule2 .ensures .after, c .before .before .before .before .before .before .loop-test .taken)
+loop-less c = let able = at-able _ _ (c .before .before .before .before .before .before .before .before .before .before .before .before .before .before .before .before .before .before .before .args .work .now) _ _ _ _ _ _ (c .before .before .before .before .before .before .before .before .before .before .before .before .before .before .before .before .before .before .before .pre .0) (c .before .before .before .before .before .before .before .before .before .before .before .before .before .before .before .before .before .before .before .pre .2) (c .before .before .before .before .before .before .loop-test .taken) (c .before .before .before .before .before .job-of .ensures .0) in omega (arith, able .1, c .next-rule2 .ensures .after, c .before .before .before .before .before .before .loop-test .taken)
 
 loop-again : tie.Need-loop-again Inv-loop2 μ-loop2 Inv-loop μ-loop Inv-round μ-round
-loop-again c = let next = c .next-rule2 .ensures in let at = at-rule _ _ _ _ (c .before .before .before .before .before .before .before .before .before .before .round .head) (c .before .before .before .before .before .before .before .loop .r) _ _ (c .before .before .before .before .before .before .before .before .before .before .before .before .before .before .before .before .before .before .pre .1) (c .before .before .before .before .before .before .before .before .before .round-test .taken) (c .before .before .before .before .before .before .loop-test .taken) (c .before .before .before .before .before .before .before .loop .inv .3) (c .before .before .before .before .before .job-of .ensures) refl in let added = ends _ _ _ _ _ _ (c .before .before .loop2 .inv .2) (λ g es n h. runs-ended g es n _ _ _ _ _ h _ _ _ _ _ _ at _ (c .before .before .before .before .runs-end .ensures) _ (c .before .loop2-test .left)) in (c .before .before .loop2 .inv .0 ∙ c .before .before .before .before .before .before .before .loop .inv .0, c .before .before .loop2 .inv .1 ∙ c .before .before .before .before .before .before .before .loop .inv .1, next .within, next .found, becomes _ _ _ _ _ _ (job-turn _ _ _ _ _ _ (c .before .before .before .before .before .before .before .before .before .before .before .before .before .before .before .before .before .before .pre .3) _ _ _ _ _ at (c .before .before .before .before .before .before .before .loop .inv .4) added) _ (λ g es n h. rules-next g es n _ _ _ _ _ h _ _ _ _ _ next))
+loop-again c = let next = c .next-rule2 .ensures in let at = at-rule _ _ _ _ _ (c .before .before .before .before .before .before .before .before .before .before .round .head) (c .before .before .before .before .before .before .before .loop .r) _ _ (c .before .before .before .before .before .before .before .before .before .before .before .before .before .before .before .before .before .before .before .pre .1) (c .before .before .before .before .before .before .before .before .before .round-test .taken) (c .before .before .before .before .before .before .loop-test .taken) (c .before .before .before .before .before .before .before .loop .inv .3) (c .before .before .before .before .before .job-of .ensures .0) (c .before .before .before .before .before .job-of .ensures .1) refl in let added = runs-done _ _ _ _ _ _ _ _ (c .before .before .before .before .before .before .before .before .before .before .before .before .before .before .before .before .before .before .before .pre .3) _ _ _ _ _ at _ (c .before .before .loop2 .inv .2) _ (c .before .before .before .before .runs-end .ensures) (c .before .loop2-test .left) in (c .before .before .loop2 .inv .0 ∙ c .before .before .before .before .before .before .before .loop .inv .0, c .before .before .loop2 .inv .1 ∙ c .before .before .before .before .before .before .before .loop .inv .1, next .within, next .found, becomes _ _ _ _ _ _ _ _ (job-turn _ _ _ _ _ _ _ _ (c .before .before .before .before .before .before .before .before .before .before .before .before .before .before .before .before .before .before .before .pre .3) _ _ _ _ _ at (c .before .before .before .before .before .before .before .loop .inv .4) added) _ (λ g es n h. rules-next g es n _ _ _ _ _ h _ es _ _ _ _ next) _ (λ g es n h. past-next g es n _ _ _ _ _ h _ _ _ _ _ next))
 
 add-head : tie.Need-add-head Inv-loop2 μ-loop2 Inv-loop μ-loop Inv-round μ-round
-add-head c = omega (arith, c .before .before .before .round-test .taken, few-heads _ (c .before .before .before .before .before .before .before .before .before .before .before .before .args .sizes .letters) (c .before .before .before .before .before .before .before .before .before .before .before .before .pre .0 .control) (omega (arith, c .before .before .before .before .before .before .struct-known .given)))
+add-head c = omega (arith, c .before .before .before .round-test .taken, few-heads _ (c .before .before .before .before .before .before .before .before .before .before .before .before .before .args .sizes .letters) (c .before .before .before .before .before .before .before .before .before .before .before .before .before .pre .0 .control) (omega (arith, c .before .before .before .before .before .before .struct-known .given)))
 
 round-less : tie.Need-round-less Inv-loop2 μ-loop2 Inv-loop μ-loop Inv-round μ-round
 round-less c = omega (arith, c .before .before .before .round-test .taken)
 
 round-again : tie.Need-round-again Inv-loop2 μ-loop2 Inv-loop μ-loop Inv-round μ-round
-round-again c = let added = ends _ _ _ _ _ _ (c .before .loop .inv .4) (λ g es n h. rules-none g es n _ _ _ _ _ h _ _ _ _ (c .loop-test .left)) in (c .before .loop .inv .0 ∙ c .before .before .before .before .round .inv .0, c .before .loop .inv .1 ∙ c .before .before .before .before .round .inv .1, head-turn _ _ _ _ _ _ _ (c .before .before .before .before .round .inv .2) (c .before .before .before .round-test .taken) added)
+round-again c = let added = ends _ _ _ _ _ _ _ _ (c .before .loop .inv .4) (λ g es n h. rules-none g es n _ _ _ _ _ h _ _ _ _ (c .loop-test .left)) in (c .before .loop .inv .0 ∙ c .before .before .before .before .round .inv .0, c .before .loop .inv .1 ∙ c .before .before .before .before .round .inv .1, head-turn _ _ _ _ _ _ _ _ _ (c .before .before .before .before .round .inv .2) (c .before .before .before .round-test .taken) added)
 
 same-length : tie.Need-same-length Inv-loop2 μ-loop2 Inv-loop μ-loop Inv-round μ-round
 same-length c = c .before .round .inv .0
@@ -118,7 +118,7 @@ same-length-2 : tie.Need-same-length-2 Inv-loop2 μ-loop2 Inv-loop μ-loop Inv-r
 same-length-2 c = c .before .round .inv .1
 
 returns : tie.Need-returns Inv-loop2 μ-loop2 Inv-loop μ-loop Inv-round μ-round
-returns c = let added = ends _ _ _ _ _ _ (c .before .round .inv .2) (λ g es n h. heads-none g es n _ _ _ _ _ h _ _ _ _ refl refl (c .round-test .left)) in (round-filled _ _ _ _ _ _ added, c .before .round .inv .0)
+returns c = let added = ends _ _ _ _ _ _ _ _ (c .before .round .inv .2) (λ g es n h. heads-none g es n _ _ _ _ _ h _ _ _ _ refl refl (c .round-test .left)) in (round-filled _ _ _ _ _ _ _ _ added, c .before .round .inv .0)
 
 same-length-3 : tie.Need-same-length-3 Inv-loop2 μ-loop2 Inv-loop μ-loop Inv-round μ-round
 same-length-3 c = c .before .before .before .before .before .run-at .ensures .1 .0 ∙ c .before .before .before .before .before .before .before .before .before .loop2 .inv .0 ∙ c .before .before .before .before .before .before .before .before .before .before .before .before .before .before .loop .inv .0 ∙ c .before .before .before .before .before .before .before .before .before .before .before .before .before .before .before .before .before .round .inv .0
@@ -127,7 +127,7 @@ same-length-4 : tie.Need-same-length-4 Inv-loop2 μ-loop2 Inv-loop μ-loop Inv-r
 same-length-4 c = c .before .before .before .before .before .run-at .ensures .1 .1 ∙ c .before .before .before .before .before .before .before .before .before .loop2 .inv .1 ∙ c .before .before .before .before .before .before .before .before .before .before .before .before .before .before .loop .inv .1 ∙ c .before .before .before .before .before .before .before .before .before .before .before .before .before .before .before .before .before .round .inv .1
 
 returns-2 : tie.Need-returns-2 Inv-loop2 μ-loop2 Inv-loop μ-loop Inv-round μ-round
-returns-2 c = let at = at-rule _ _ _ _ (c .before .before .before .before .before .before .before .before .before .before .before .before .before .before .before .before .before .round .head) (c .before .before .before .before .before .before .before .before .before .before .before .before .before .before .loop .r) _ _ (c .before .before .before .before .before .before .before .before .before .before .before .before .before .before .before .before .before .before .before .before .before .before .before .before .before .pre .1) (c .before .before .before .before .before .before .before .before .before .before .before .before .before .before .before .before .round-test .taken) (c .before .before .before .before .before .before .before .before .before .before .before .before .before .loop-test .taken) (c .before .before .before .before .before .before .before .before .before .before .before .before .before .before .loop .inv .3) (c .before .before .before .before .before .before .before .before .before .before .before .before .job-of .ensures) refl in let long = c .before .before .before .before .before .run-at .ensures .1 .0 ∙ c .before .before .before .before .before .before .before .before .before .loop2 .inv .0 ∙ c .before .before .before .before .before .before .before .before .before .before .before .before .before .before .loop .inv .0 ∙ c .before .before .before .before .before .before .before .before .before .before .before .before .before .before .before .before .before .round .inv .0 in let full : length (c .before .before .before .before .before .run-at .last .1 .1 .1 .1 .0) / 3 < c .before .before .before .before .before .run-at .result = rw long (c .if1 .taken) in let run = run-turn _ _ _ _ _ _ (c .before .before .before .before .before .before .before .before .before .before .before .before .before .before .before .before .before .before .before .before .before .before .before .before .before .pre .3) _ _ _ _ _ at _ (c .before .before .before .before .before .before .before .before .before .loop2 .inv .2) (omega (arith, c .before .before .before .before .before .before .before .before .loop2-test .taken, runs-within _ _ _ _ _ (c .before .before .before .before .before .before .before .before .before .before .before .runs-end .ensures))) (c .before .before .before .before .before .run-at .ensures .0) in let job = job-turn _ _ _ _ _ _ (c .before .before .before .before .before .before .before .before .before .before .before .before .before .before .before .before .before .before .before .before .before .before .before .before .before .pre .3) _ _ _ _ _ at (c .before .before .before .before .before .before .before .before .before .before .before .before .before .before .loop .inv .4) (stops _ _ _ _ _ _ run full) in let all = head-turn _ _ _ _ _ _ _ (c .before .before .before .before .before .before .before .before .before .before .before .before .before .before .before .before .before .round .inv .2) (c .before .before .before .before .before .before .before .before .before .before .before .before .before .before .before .before .round-test .taken) (stops _ _ _ _ _ _ job full) in (round-filled _ _ _ _ _ _ (stops _ _ _ _ _ _ all full), long)
+returns-2 c = let at = at-rule _ _ _ _ _ (c .before .before .before .before .before .before .before .before .before .before .before .before .before .before .before .before .before .round .head) (c .before .before .before .before .before .before .before .before .before .before .before .before .before .before .loop .r) _ _ (c .before .before .before .before .before .before .before .before .before .before .before .before .before .before .before .before .before .before .before .before .before .before .before .before .before .before .pre .1) (c .before .before .before .before .before .before .before .before .before .before .before .before .before .before .before .before .round-test .taken) (c .before .before .before .before .before .before .before .before .before .before .before .before .before .loop-test .taken) (c .before .before .before .before .before .before .before .before .before .before .before .before .before .before .loop .inv .3) (c .before .before .before .before .before .before .before .before .before .before .before .before .job-of .ensures .0) (c .before .before .before .before .before .before .before .before .before .before .before .before .job-of .ensures .1) refl in let long = c .before .before .before .before .before .run-at .ensures .1 .0 ∙ c .before .before .before .before .before .before .before .before .before .loop2 .inv .0 ∙ c .before .before .before .before .before .before .before .before .before .before .before .before .before .before .loop .inv .0 ∙ c .before .before .before .before .before .before .before .before .before .before .before .before .before .before .before .before .before .round .inv .0 in let full : length (c .before .before .before .before .before .run-at .last .1 .1 .1 .1 .1 .0) / 3 < c .before .before .before .before .before .run-at .result = rw long (c .if1 .taken) in let run = run-turn _ _ _ _ _ _ _ _ (c .before .before .before .before .before .before .before .before .before .before .before .before .before .before .before .before .before .before .before .before .before .before .before .before .before .before .pre .3) _ _ _ _ _ at _ (c .before .before .before .before .before .before .before .before .before .loop2 .inv .2) (omega (arith, c .before .before .before .before .before .before .before .before .loop2-test .taken, runs-within _ _ _ _ _ _ _ (c .before .before .before .before .before .before .before .before .before .before .before .runs-end .ensures))) (c .before .before .before .before .before .run-at .ensures .0) in let job = job-turn _ _ _ _ _ _ _ _ (c .before .before .before .before .before .before .before .before .before .before .before .before .before .before .before .before .before .before .before .before .before .before .before .before .before .before .pre .3) _ _ _ _ _ at (c .before .before .before .before .before .before .before .before .before .before .before .before .before .before .loop .inv .4) (stops _ _ _ _ _ _ _ _ run full) in let all = head-turn _ _ _ _ _ _ _ _ _ (c .before .before .before .before .before .before .before .before .before .before .before .before .before .before .before .before .before .round .inv .2) (c .before .before .before .before .before .before .before .before .before .before .before .before .before .before .before .before .round-test .taken) (stops _ _ _ _ _ _ _ _ job full) in (round-filled _ _ _ _ _ _ _ _ (stops _ _ _ _ _ _ _ _ all full), long)
 
 pub add-runs-spec : {M : Type 1} → statement M
 add-runs-spec =

@@ -3,25 +3,32 @@
 -- caller's list. The loop of `rules_from` takes the entries of a head of the old round one after another (`Scanning`). That of
 -- `pass_states` is a walk by levels (`Walking`): a level is opened, goes on, or is done, and the table after all levels are done
 -- stays the same; that there are at most 32 levels, and that the walk ends, needs no game (`Bounded`, `remaining`). What falls
--- from call to call is the number of rules left.
+-- from call to call is the number of rules left. What is passed over for having no entry of the last round is given by older entries
+-- alone, and what those give from here on is held (`Past`); that is handed on with each older entry that is taken.
 -- Assumes what the contracts require.
 use Prim.Native.Nat.{_+_, _*_, _-_, _^_}
 use native.Mathlib.Omega.{arith}
 use borrow.Author.Needs.{needs}
-use mathlib.Core.Path.{_≡_, refl, sym, _∙_}
-use mathlib.Core.List.{List}
-use lib.ListN.{length}
+use mathlib.Core.Path.{_≡_, refl, sym, ap, _∙_}
+use mathlib.Core.List.{List, map}
+use lib.ListN.{length, getD}
 use Rattle.game.specs.Game.{PushdownGame}
 use Rattle.table.specs.Table.{Entry}
+use Rattle.rounds.specs.Rounds.{entryAt}
+use Rattle.rounds.specs.Enumeration.{restRuns}
+use Rattle.rounds.specs.Scans.{rulesBetween}
 use Rattle.rounds.specs.Growing.{Growing}
 use Rattle.walk.specs.Places.{Placing}
 use Rattle.walk.specs.Jobs.{Late, Whole, Entered}
 use Rattle.walk.specs.NextLaws.{beginOf}
+use Rattle.walk.specs.Past.{older, Past, Aging}
 use Rattle.walk.proofs.Enumerating.{Scanning, scan-next}
 use Rattle.walk.proofs.Parts.{shifted-one, later}
+use Rattle.walk.proofs.Earlier.{none-older, set-older, past-rest, past-pops, past-writes, past-one, past-two}
 use Rattle.walk.proofs.Depth.{Bounded, bounded-start, deep, bounded-at, bounded-before, bounded-after, remaining, falls-here, falls-before, falls-after}
-use Rattle.walk.proofs.Walking.{Walking, walk-starts, walk-ends, walk-back, walk-takes, walk-opens}
-use Rattle.walk.proofs.Turns.{hit, notes, begins-none, begins-one, begins-two, no-rule, job-of, pops-first, writes-first, other-state, other-letter, same-head, to-is, count-is, above-is, none-of-it, rest-is, set-of, set-below, set-adds, union-adds, joins, joins-some, begun, scan-from, scan-to, begins-nothing, within, above-placed, starts-below, ends-below, below-small, word-adds, rest-below}
+use Rattle.walk.proofs.LevelParts.{earlier}
+use Rattle.walk.proofs.Walking.{Walking, walk-starts, walk-ends, walk-back, past-last, walk-takes, walk-opens}
+use Rattle.walk.proofs.Turns.{hit, notes, begins-none, begins-one, begins-two, no-rule, job-of, pops-first, writes-first, other-state, other-letter, same-head, to-is, count-is, above-is, below-is, none-of-it, rest-is, set-of, set-below, set-adds, union-adds, joins, joins-some, begun, scan-from, scan-to, begins-nothing, within, above-placed, starts-below, ends-below, below-small, word-adds, rest-below}
 use Rattle.rounds.specs.StoredRows.{long-of}
 use lib.Pow.{pow-pos}
 use Prim.Native.Nat.{ℕ, _<_}
@@ -40,90 +47,101 @@ use Rattle.walk.proofs.runs.runs_with.Reads as runs-with
 use Rattle.walk.proofs.runs.runs_with.Kinds as runs-with-kinds
 use Rattle.walk.proofs.runs.+pass_states+rules_after+rules_from+runs_with.Lts-runs_with as runs-with-lts
 use Rattle.rounds.proofs.insert.Reads as insert-reads
+use Rattle.rounds.proofs.highest.Reads as highest-reads
+use Rattle.rounds.proofs.next_rule.Reads as next-rule-reads
+use Rattle.table.proofs.entry.EntryWords.at.Reads as at-reads
+use Rattle.table.proofs.entry.EntryWords.letter.Reads as letter-reads
+use Rattle.table.proofs.entry.EntryWords.state.Reads as state-reads
+use Rattle.walk.proofs.fresh.fresh_on.Reads as fresh-on-reads
+use Rattle.walk.proofs.fresh.older_below.Reads as older-below-reads
+use Rattle.walk.proofs.fresh.still_late.Reads as still-late-reads
 use Rattle.walk.proofs.memo.finish.Reads as finish-reads
 use Rattle.walk.proofs.memo.is_finished.Reads as is-finished-reads
 use Rattle.walk.proofs.places.end_at.Reads as end-at-reads
 use Rattle.walk.proofs.places.start_at.Reads as start-at-reads
-use Rattle.rounds.proofs.highest.Reads as highest-reads
 use Rattle.walk.proofs.runs.joined.Reads as joined-reads
 use Rattle.walk.proofs.runs.next_open.Reads as next-open-reads
-use Rattle.rounds.proofs.next_rule.Reads as next-rule-reads
 use Rattle.walk.proofs.runs.tag_of.Reads as tag-of-reads
-use Rattle.table.proofs.entry.EntryWords.at.Reads as at-reads
-use Rattle.table.proofs.entry.EntryWords.letter.Reads as letter-reads
-use Rattle.table.proofs.entry.EntryWords.state.Reads as state-reads
 use Rattle.walk.proofs.runs.+pass_states+rules_after+rules_from+runs_with.{statement}
 use Rattle.walk.proofs.runs.+pass_states+rules_after+rules_from+runs_with.Tie.{close}
 
-abbrev μ-pass-states : Measures 5 pass-states-kinds.ps ℕ
-μ-pass-states κs a = (a .0 .end - a .1 .1 .1 .1 .1 .1 .1 .0) * 4 + 1
+abbrev μ-pass-states : Measures 6 pass-states-kinds.ps ℕ
+μ-pass-states κs a = (a .0 .end - a .1 .1 .1 .1 .1 .1 .1 .1 .0) * 4 + 1
 
-abbrev μ-rules-after : Measures 5 rules-after-kinds.ps ℕ
-μ-rules-after κs a = (a .0 .end - a .1 .1 .1 .1 .1 .1 .1 .0) * 4
+abbrev μ-rules-after : Measures 6 rules-after-kinds.ps ℕ
+μ-rules-after κs a = (a .0 .end - a .1 .1 .1 .1 .1 .1 .1 .1 .0) * 4
 
-abbrev μ-rules-from : Measures 5 rules-from-kinds.ps ℕ
-μ-rules-from κs a = (a .0 .end - a .1 .1 .1 .1 .1 .1 .1 .0) * 4 + 3
+abbrev μ-rules-from : Measures 6 rules-from-kinds.ps ℕ
+μ-rules-from κs a = (a .0 .end - a .1 .1 .1 .1 .1 .1 .1 .1 .0) * 4 + 3
 
-abbrev μ-runs-with : Measures 5 runs-with-kinds.ps ℕ
-μ-runs-with κs a = (a .0 .end - a .1 .1 .1 .1 .1 .1 .1 .0) * 4 + 2
+abbrev μ-runs-with : Measures 6 runs-with-kinds.ps ℕ
+μ-runs-with κs a = (a .0 .end - a .1 .1 .1 .1 .1 .1 .1 .1 .0) * 4 + 2
 
-abbrev pass-states-at : ℕ → In 5 pass-states-kinds.ps
+abbrev pass-states-at : ℕ → In 6 pass-states-kinds.ps
 pass-states-at t =
-    and 5 pass-states-kinds.ps (is 5 pass-states-kinds.ps μ-pass-states t) pass-states.Pre
+    and 6 pass-states-kinds.ps (is 6 pass-states-kinds.ps μ-pass-states t) pass-states.Pre
 
-abbrev pass-states-below : ℕ → In 5 pass-states-kinds.ps
+abbrev pass-states-below : ℕ → In 6 pass-states-kinds.ps
 pass-states-below t =
-    and 5 pass-states-kinds.ps (falls 5 pass-states-kinds.ps _<_ μ-pass-states t) pass-states.Pre
+    and 6 pass-states-kinds.ps (falls 6 pass-states-kinds.ps _<_ μ-pass-states t) pass-states.Pre
 
-abbrev rules-after-at : ℕ → In 5 rules-after-kinds.ps
+abbrev rules-after-at : ℕ → In 6 rules-after-kinds.ps
 rules-after-at t =
-    and 5 rules-after-kinds.ps (is 5 rules-after-kinds.ps μ-rules-after t) rules-after.Pre
+    and 6 rules-after-kinds.ps (is 6 rules-after-kinds.ps μ-rules-after t) rules-after.Pre
 
-abbrev rules-after-below : ℕ → In 5 rules-after-kinds.ps
+abbrev rules-after-below : ℕ → In 6 rules-after-kinds.ps
 rules-after-below t =
-    and 5 rules-after-kinds.ps (falls 5 rules-after-kinds.ps _<_ μ-rules-after t) rules-after.Pre
+    and 6 rules-after-kinds.ps (falls 6 rules-after-kinds.ps _<_ μ-rules-after t) rules-after.Pre
 
-abbrev rules-from-at : ℕ → In 5 rules-from-kinds.ps
+abbrev rules-from-at : ℕ → In 6 rules-from-kinds.ps
 rules-from-at t =
-    and 5 rules-from-kinds.ps (is 5 rules-from-kinds.ps μ-rules-from t) rules-from.Pre
+    and 6 rules-from-kinds.ps (is 6 rules-from-kinds.ps μ-rules-from t) rules-from.Pre
 
-abbrev rules-from-below : ℕ → In 5 rules-from-kinds.ps
+abbrev rules-from-below : ℕ → In 6 rules-from-kinds.ps
 rules-from-below t =
-    and 5 rules-from-kinds.ps (falls 5 rules-from-kinds.ps _<_ μ-rules-from t) rules-from.Pre
+    and 6 rules-from-kinds.ps (falls 6 rules-from-kinds.ps _<_ μ-rules-from t) rules-from.Pre
 
-abbrev runs-with-at : ℕ → In 5 runs-with-kinds.ps
-runs-with-at t = and 5 runs-with-kinds.ps (is 5 runs-with-kinds.ps μ-runs-with t) runs-with.Pre
+abbrev runs-with-at : ℕ → In 6 runs-with-kinds.ps
+runs-with-at t = and 6 runs-with-kinds.ps (is 6 runs-with-kinds.ps μ-runs-with t) runs-with.Pre
 
-abbrev runs-with-below : ℕ → In 5 runs-with-kinds.ps
+abbrev runs-with-below : ℕ → In 6 runs-with-kinds.ps
 runs-with-below t =
-    and 5 runs-with-kinds.ps (falls 5 runs-with-kinds.ps _<_ μ-runs-with t) runs-with.Pre
+    and 6 runs-with-kinds.ps (falls 6 runs-with-kinds.ps _<_ μ-runs-with t) runs-with.Pre
 
 abbrev pass-states-Inv-loop : pass-states-lts.InvT-loop
-pass-states-Inv-loop job rules places work table₀ memo₀ count r set reached tag below lefts₀ unions₀ nexts₀ depth₀ filled₀ left₀ union₀ i₀ table memo lefts unions nexts depth filled left union i = (length table ≡ length table₀) × (length memo ≡ length memo₀) × Bounded lefts unions nexts (job .count) depth left i × ((g : PushdownGame) (old : List Entry) (birthdate n : ℕ) (s : Growing) → Entered g old birthdate n job rules work table₀ count memo₀ s → Placing g work (job .count) places → Whole g job r → set < 2 ^ g .states → Walking g old birthdate n job rules work r s set reached lefts unions nexts depth left union i table filled memo)
+pass-states-Inv-loop job rules places fresh work table₀ memo₀ count r set reached late tag below lefts₀ unions₀ nexts₀ limits₀ new depth₀ filled₀ left₀ union₀ limit₀ i₀ table memo lefts unions nexts limits depth filled left union limit i = (length table ≡ length table₀) × (length memo ≡ length memo₀) × Bounded lefts unions nexts limits (job .count) depth left i × ((g : PushdownGame) (old : List Entry) (birthdate n : ℕ) (s : Growing) → Entered g old birthdate n job rules work table₀ count memo₀ s → Placing g work (job .count) places → Aging g old birthdate job fresh → Whole g job r → set < 2 ^ g .states → Past birthdate n late (earlier g old birthdate n job rules work r set reached) s → Walking g old birthdate n job rules work r s set reached lefts unions nexts limits depth left union i limit table filled memo)
 
 abbrev pass-states-μ-loop : pass-states-lts.MeasureT-loop
-pass-states-μ-loop job rules places work table₀ memo₀ count r set reached tag below lefts₀ unions₀ nexts₀ depth₀ filled₀ left₀ union₀ i₀ table memo lefts unions nexts depth filled left union i = remaining nexts (job .count) depth i
+pass-states-μ-loop job rules places fresh work table₀ memo₀ count r set reached late tag below lefts₀ unions₀ nexts₀ limits₀ new depth₀ filled₀ left₀ union₀ limit₀ i₀ table memo lefts unions nexts limits depth filled left union limit i = remaining nexts (job .count) depth i
 
 abbrev pass-states-claims : ℕ → pass-states-lts.Claims
 pass-states-claims t = (
   tag-of-reads.Asked,
   tag-of-reads.Learnt,
+  fresh-on-reads.Asked,
+  fresh-on-reads.Learnt,
   highest-reads.Asked,
   highest-reads.Learnt,
   start-at-reads.Asked,
   start-at-reads.Learnt,
   end-at-reads.Asked,
   end-at-reads.Learnt,
+  older-below-reads.Asked,
+  older-below-reads.Learnt,
   next-open-reads.Asked,
   next-open-reads.Learnt,
   finish-reads.Asked,
   finish-reads.Learnt,
+  still-late-reads.Asked,
+  still-late-reads.Learnt,
   rules-after-below t,
   rules-after.Post,
 )
 
 abbrev rules-after-claims : ℕ → rules-after-lts.Claims
 rules-after-claims t = (
+  older-below-reads.Asked,
+  older-below-reads.Learnt,
   tag-of-reads.Asked,
   tag-of-reads.Learnt,
   is-finished-reads.Asked,
@@ -160,8 +178,14 @@ runs-with-claims t = (
   state-reads.Learnt,
   letter-reads.Asked,
   letter-reads.Learnt,
+  still-late-reads.Asked,
+  still-late-reads.Learnt,
   rules-after-below t,
   rules-after.Post,
+  fresh-on-reads.Asked,
+  fresh-on-reads.Learnt,
+  older-below-reads.Asked,
+  older-below-reads.Learnt,
   pass-states-below t,
   pass-states.Post,
 )
@@ -178,6 +202,9 @@ pass-states-add-below t c = omega arith
 pass-states-shared-slice-read-below : (t : ℕ) → pass-states-lts.Need-shared-slice-read-below (pass-states-claims t) (pass-states-at t) pass-states.Post pass-states-Inv-loop pass-states-μ-loop
 pass-states-shared-slice-read-below t c = omega arith
 
+pass-states-fresh-on-requires : (t : ℕ) → pass-states-lts.Need-fresh-on-requires (pass-states-claims t) (pass-states-at t) pass-states.Post pass-states-Inv-loop pass-states-μ-loop
+pass-states-fresh-on-requires t c κs = search needs
+
 pass-states-highest-requires : (t : ℕ) → pass-states-lts.Need-highest-requires (pass-states-claims t) (pass-states-at t) pass-states.Post pass-states-Inv-loop pass-states-μ-loop
 pass-states-highest-requires t c κs = search needs
 
@@ -185,7 +212,7 @@ pass-states-start-at-requires : (t : ℕ) → pass-states-lts.Need-start-at-requ
 pass-states-start-at-requires t c κs = search needs
 
 pass-states-loop-holds : (t : ℕ) → pass-states-lts.Need-loop-holds (pass-states-claims t) (pass-states-at t) pass-states.Post pass-states-Inv-loop pass-states-μ-loop
-pass-states-loop-holds t c = (refl, refl, bounded-start _ _ _ (c .before .before .before .before .before .before .before .before .before .pre .1 .2) (omega arith) (c .start-at .ensures .0), λ g old b n s h pl whole small. walk-starts g old b n _ _ _ _ _ _ _ s h _ _ _ _ (c .before .highest .ensures) (c .before .before .before .before .before .before .before .before .before .pre .1 .2) small (starts-below g old b n _ _ _ _ _ _ s h _ (c .before .before .before .before .before .before .before .before .before .pre .1 .1) _ pl _ _ small (c .before .before .before .before .before .before .before .before .before .pre .1 .2) (c .before .highest .ensures) _ (c .start-at .ensures .1 _)) _ _ _)
+pass-states-loop-holds t c = (refl, refl, bounded-start _ _ _ (c .before .before .before .before .before .before .before .before .before .before .before .pre .1 .2) (omega arith) (c .start-at .ensures .0), λ g old b n s h pl ag whole small past. walk-starts g old b n _ _ _ _ _ _ _ s h _ _ _ _ (c .before .highest .ensures) (c .before .before .before .before .before .before .before .before .before .before .before .pre .1 .2) small (starts-below g old b n _ _ _ _ _ _ s h _ (c .before .before .before .before .before .before .before .before .before .before .before .pre .1 .1) _ pl _ _ small (c .before .before .before .before .before .before .before .before .before .before .before .pre .1 .2) (c .before .highest .ensures) _ (c .start-at .ensures .1 _)) _ past _ _ _ _)
 
 pass-states-highest-requires-2 : (t : ℕ) → pass-states-lts.Need-highest-requires-2 (pass-states-claims t) (pass-states-at t) pass-states.Post pass-states-Inv-loop pass-states-μ-loop
 pass-states-highest-requires-2 t c κs = search needs
@@ -202,8 +229,11 @@ pass-states-rem-rest t c = rw (shifted-one _ (c .highest2 .ensures .small)) (ome
 pass-states-end-at-requires : (t : ℕ) → pass-states-lts.Need-end-at-requires (pass-states-claims t) (pass-states-at t) pass-states.Post pass-states-Inv-loop pass-states-μ-loop
 pass-states-end-at-requires t c κs = search needs
 
+pass-states-older-below-requires : (t : ℕ) → pass-states-lts.Need-older-below-requires (pass-states-claims t) (pass-states-at t) pass-states.Post pass-states-Inv-loop pass-states-μ-loop
+pass-states-older-below-requires t c κs = omega (arith, c .before .before .before .before .before .before .before .before .before .before .before .before .before .before .pre .1 .0 .few, c .before .before .before .before .before .before .before .before .before .before .before .before .before .before .pre .1 .1)
+
 pass-states-next-open-requires : (t : ℕ) → pass-states-lts.Need-next-open-requires (pass-states-claims t) (pass-states-at t) pass-states.Post pass-states-Inv-loop pass-states-μ-loop
-pass-states-next-open-requires t c κs = omega (arith, c .before .end-at .ensures .0, c .before .before .before .before .before .before .before .before .before .before .before .before .before .pre .1 .0 .entries)
+pass-states-next-open-requires t c κs = omega (arith, c .before .before .end-at .ensures .0, c .before .before .before .before .before .before .before .before .before .before .before .before .before .before .before .before .pre .1 .0 .entries)
 
 pass-states-same-length : (t : ℕ) → pass-states-lts.Need-same-length (pass-states-claims t) (pass-states-at t) pass-states.Post pass-states-Inv-loop pass-states-μ-loop
 pass-states-same-length t c = search needs
@@ -212,7 +242,7 @@ pass-states-same-length-2 : (t : ℕ) → pass-states-lts.Need-same-length-2 (pa
 pass-states-same-length-2 t c = search needs
 
 pass-states-returns : (t : ℕ) → pass-states-lts.Need-returns (pass-states-claims t) (pass-states-at t) pass-states.Post pass-states-Inv-loop pass-states-μ-loop
-pass-states-returns t c = (λ g old b n s h pl whole small. let w = c .before .before .before .before .before .before .loop .inv .3 g old b n s h pl whole small in walk-ends g old b n _ _ _ _ s _ _ _ _ _ _ _ _ _ _ _ _ w whole (within g old b n _ _ _ _ _ _ s h _ (c .before .before .before .before .before .before .before .before .before .before .before .before .before .before .before .before .pre .1 .1)) _ (c .before .before .before .before .before .highest2 .ensures) _ (c .before .before .before .before .before .before .before .before .before .before .tag-of .ensures) _ (rest-is _ _ (c .before .before .before .before .before .highest2 .ensures)) _ _ (c .before .before .next-open .ensures) (omega (arith, c .before .before .next-open .ensures .within, c .before .before .before .before .before .before .loop .inv .2 .within, c .before .before .before .before .end-at .ensures .0)) (ends-below g old b n _ _ _ _ _ _ s h _ (c .before .before .before .before .before .before .before .before .before .before .before .before .before .before .before .before .pre .1 .1) _ pl _ _ (w .fit .small) (w .fit .some) (c .before .before .before .before .before .highest2 .ensures) _ (c .before .before .before .before .end-at .ensures .1 _)) (c .before .if1 .taken) (c .if2 .taken), (c .before .before .before .before .before .before .loop .inv .0, c .before .before .before .before .before .before .loop .inv .1))
+pass-states-returns t c = (λ g old b n s h pl ag whole small past. let w = c .before .before .before .before .before .before .before .loop .inv .3 g old b n s h pl ag whole small past in walk-ends g old b n _ _ _ _ s _ _ _ _ _ _ _ _ _ _ _ _ _ _ w whole (within g old b n _ _ _ _ _ _ s h _ (c .before .before .before .before .before .before .before .before .before .before .before .before .before .before .before .before .before .before .before .pre .1 .1)) _ (c .before .before .before .before .before .before .highest2 .ensures) _ (c .before .before .before .before .before .before .before .before .before .before .before .before .tag-of .ensures) _ (rest-is _ _ (c .before .before .before .before .before .before .highest2 .ensures)) (c .before .before .before .before .before .before .before .before .before .before .before .before .before .before .before .before .before .before .before .args .fresh .now) ag (c .before .before .before .before .before .before .before .before .before .before .fresh-on .result) (c .before .before .before .before .before .before .before .before .before .before .fresh-on .ensures ∙ ap (λ (a : ℕ). getD (c .before .before .before .before .before .before .before .before .before .before .before .before .before .before .before .before .before .before .before .args .fresh .now) a 0) (below-is g old b n _ _ _ _ _ _ s h _ (c .before .before .before .before .before .before .before .before .before .before .before .before .before .before .before .before .before .before .before .pre .1 .1))) (c .before .before .before .before .older-below .result) (c .before .before .before .before .older-below .ensures) _ _ (c .before .before .next-open .ensures) (omega (arith, c .before .before .next-open .ensures .within, c .before .before .before .before .before .before .before .loop .inv .2 .within, c .before .before .before .before .before .end-at .ensures .0)) (ends-below g old b n _ _ _ _ _ _ s h _ (c .before .before .before .before .before .before .before .before .before .before .before .before .before .before .before .before .before .before .before .pre .1 .1) _ pl _ _ (w .fit .small) (w .fit .some) (c .before .before .before .before .before .before .highest2 .ensures) _ (c .before .before .before .before .before .end-at .ensures .1 _)) (c .before .if1 .taken) (c .if2 .taken), (c .before .before .before .before .before .before .before .loop .inv .0, c .before .before .before .before .before .before .before .loop .inv .1))
 
 pass-states-finish-requires : (t : ℕ) → pass-states-lts.Need-finish-requires (pass-states-claims t) (pass-states-at t) pass-states.Post pass-states-Inv-loop pass-states-μ-loop
 pass-states-finish-requires t c κs = search needs
@@ -221,76 +251,122 @@ pass-states-sub-depth : (t : ℕ) → pass-states-lts.Need-sub-depth (pass-state
 pass-states-sub-depth t c = omega (arith, c .before .before .before .before .if2 .left)
 
 pass-states-mul-left : (t : ℕ) → pass-states-lts.Need-mul-left (pass-states-claims t) (pass-states-at t) pass-states.Post pass-states-Inv-loop pass-states-μ-loop
-pass-states-mul-left t c = omega (arith, deep _ _ _ _ _ _ _ (c .before .before .before .before .before .before .before .before .before .before .loop .inv .2))
+pass-states-mul-left t c = omega (arith, deep _ _ _ _ _ _ _ _ (c .before .before .before .before .before .before .before .before .before .before .before .loop .inv .2))
 
 pass-states-array-read-left : (t : ℕ) → pass-states-lts.Need-array-read-left (pass-states-claims t) (pass-states-at t) pass-states.Post pass-states-Inv-loop pass-states-μ-loop
-pass-states-array-read-left t c = omega (arith, deep _ _ _ _ _ _ _ (c .before .before .before .before .before .before .before .before .before .before .loop .inv .2), c .before .before .before .before .before .before .before .before .before .before .loop .inv .2 .lefts-long)
+pass-states-array-read-left t c = omega (arith, deep _ _ _ _ _ _ _ _ (c .before .before .before .before .before .before .before .before .before .before .before .loop .inv .2), c .before .before .before .before .before .before .before .before .before .before .before .loop .inv .2 .lefts-long)
 
 pass-states-mul-union : (t : ℕ) → pass-states-lts.Need-mul-union (pass-states-claims t) (pass-states-at t) pass-states.Post pass-states-Inv-loop pass-states-μ-loop
-pass-states-mul-union t c = omega (arith, deep _ _ _ _ _ _ _ (c .before .before .before .before .before .before .before .before .before .before .loop .inv .2))
+pass-states-mul-union t c = omega (arith, deep _ _ _ _ _ _ _ _ (c .before .before .before .before .before .before .before .before .before .before .before .loop .inv .2))
 
 pass-states-array-read-union : (t : ℕ) → pass-states-lts.Need-array-read-union (pass-states-claims t) (pass-states-at t) pass-states.Post pass-states-Inv-loop pass-states-μ-loop
-pass-states-array-read-union t c = omega (arith, deep _ _ _ _ _ _ _ (c .before .before .before .before .before .before .before .before .before .before .loop .inv .2), c .before .before .before .before .before .before .before .before .before .before .loop .inv .2 .unions-long)
+pass-states-array-read-union t c = omega (arith, deep _ _ _ _ _ _ _ _ (c .before .before .before .before .before .before .before .before .before .before .before .loop .inv .2), c .before .before .before .before .before .before .before .before .before .before .before .loop .inv .2 .unions-long)
 
 pass-states-mul-i : (t : ℕ) → pass-states-lts.Need-mul-i (pass-states-claims t) (pass-states-at t) pass-states.Post pass-states-Inv-loop pass-states-μ-loop
-pass-states-mul-i t c = omega (arith, deep _ _ _ _ _ _ _ (c .before .before .before .before .before .before .before .before .before .before .loop .inv .2))
+pass-states-mul-i t c = omega (arith, deep _ _ _ _ _ _ _ _ (c .before .before .before .before .before .before .before .before .before .before .before .loop .inv .2))
 
 pass-states-array-read-i : (t : ℕ) → pass-states-lts.Need-array-read-i (pass-states-claims t) (pass-states-at t) pass-states.Post pass-states-Inv-loop pass-states-μ-loop
-pass-states-array-read-i t c = omega (arith, deep _ _ _ _ _ _ _ (c .before .before .before .before .before .before .before .before .before .before .loop .inv .2), c .before .before .before .before .before .before .before .before .before .before .loop .inv .2 .nexts-long)
+pass-states-array-read-i t c = omega (arith, deep _ _ _ _ _ _ _ _ (c .before .before .before .before .before .before .before .before .before .before .before .loop .inv .2), c .before .before .before .before .before .before .before .before .before .before .before .loop .inv .2 .nexts-long)
+
+pass-states-mul-limit : (t : ℕ) → pass-states-lts.Need-mul-limit (pass-states-claims t) (pass-states-at t) pass-states.Post pass-states-Inv-loop pass-states-μ-loop
+pass-states-mul-limit t c = omega (arith, deep _ _ _ _ _ _ _ _ (c .before .before .before .before .before .before .before .before .before .before .before .loop .inv .2))
+
+pass-states-array-read-limit : (t : ℕ) → pass-states-lts.Need-array-read-limit (pass-states-claims t) (pass-states-at t) pass-states.Post pass-states-Inv-loop pass-states-μ-loop
+pass-states-array-read-limit t c = omega (arith, deep _ _ _ _ _ _ _ _ (c .before .before .before .before .before .before .before .before .before .before .before .loop .inv .2), c .before .before .before .before .before .before .before .before .before .before .before .loop .inv .2 .limits-long)
 
 pass-states-loop-less : (t : ℕ) → pass-states-lts.Need-loop-less (pass-states-claims t) (pass-states-at t) pass-states.Post pass-states-Inv-loop pass-states-μ-loop
-pass-states-loop-less t c = falls-before _ _ _ _ (omega (arith, c .before .before .before .before .if2 .left)) (c .before .before .before .before .before .before .before .before .before .before .loop .inv .2 .within)
+pass-states-loop-less t c = falls-before _ _ _ _ (omega (arith, c .before .before .before .before .if2 .left)) (c .before .before .before .before .before .before .before .before .before .before .before .loop .inv .2 .within)
 
 pass-states-loop-again : (t : ℕ) → pass-states-lts.Need-loop-again (pass-states-claims t) (pass-states-at t) pass-states.Post pass-states-Inv-loop pass-states-μ-loop
-pass-states-loop-again t c = (c .before .before .before .before .before .before .before .before .before .before .loop .inv .0, search needs, bounded-before _ _ _ _ _ _ _ (c .before .before .before .before .before .before .before .before .before .before .loop .inv .2) _ (omega (arith, c .before .before .before .before .if2 .left)), λ g old b n s h pl whole small. let w = c .before .before .before .before .before .before .before .before .before .before .loop .inv .3 g old b n s h pl whole small in walk-back g old b n _ _ _ _ s _ _ _ _ _ _ _ _ _ _ _ _ w whole (within g old b n _ _ _ _ _ _ s h _ (c .before .before .before .before .before .before .before .before .before .before .before .before .before .before .before .before .before .before .before .before .pre .1 .1)) _ (c .before .before .before .before .before .before .before .before .before .highest2 .ensures) _ (c .before .before .before .before .before .before .before .before .before .before .before .before .before .before .tag-of .ensures) _ (rest-is _ _ (c .before .before .before .before .before .before .before .before .before .highest2 .ensures)) _ _ (c .before .before .before .before .before .before .next-open .ensures) (omega (arith, c .before .before .before .before .before .before .next-open .ensures .within, c .before .before .before .before .before .before .before .before .before .before .loop .inv .2 .within, c .before .before .before .before .before .before .before .before .end-at .ensures .0)) (ends-below g old b n _ _ _ _ _ _ s h _ (c .before .before .before .before .before .before .before .before .before .before .before .before .before .before .before .before .before .before .before .before .pre .1 .1) _ pl _ _ (w .fit .small) (w .fit .some) (c .before .before .before .before .before .before .before .before .before .highest2 .ensures) _ (c .before .before .before .before .before .before .before .before .end-at .ensures .1 _)) (c .before .before .before .before .before .if1 .taken) _ (c .before .before .finish .ensures) (omega (arith, c .before .before .before .before .if2 .left)))
+pass-states-loop-again t c = (c .before .before .before .before .before .before .before .before .before .before .before .loop .inv .0, search needs, bounded-before _ _ _ _ _ _ _ _ (c .before .before .before .before .before .before .before .before .before .before .before .loop .inv .2) _ (omega (arith, c .before .before .before .before .if2 .left)), λ g old b n s h pl ag whole small past. let w = c .before .before .before .before .before .before .before .before .before .before .before .loop .inv .3 g old b n s h pl ag whole small past in walk-back g old b n _ _ _ _ s _ _ _ _ _ _ _ _ _ _ _ _ _ _ w whole (within g old b n _ _ _ _ _ _ s h _ (c .before .before .before .before .before .before .before .before .before .before .before .before .before .before .before .before .before .before .before .before .before .before .before .pre .1 .1)) _ (c .before .before .before .before .before .before .before .before .before .before .highest2 .ensures) _ (c .before .before .before .before .before .before .before .before .before .before .before .before .before .before .before .before .tag-of .ensures) _ (rest-is _ _ (c .before .before .before .before .before .before .before .before .before .before .highest2 .ensures)) (c .before .before .before .before .before .before .before .before .before .before .before .before .before .before .before .before .before .before .before .before .before .before .before .args .fresh .now) ag (c .before .before .before .before .before .before .before .before .before .before .before .before .before .before .fresh-on .result) (c .before .before .before .before .before .before .before .before .before .before .before .before .before .before .fresh-on .ensures ∙ ap (λ (a : ℕ). getD (c .before .before .before .before .before .before .before .before .before .before .before .before .before .before .before .before .before .before .before .before .before .before .before .args .fresh .now) a 0) (below-is g old b n _ _ _ _ _ _ s h _ (c .before .before .before .before .before .before .before .before .before .before .before .before .before .before .before .before .before .before .before .before .before .before .before .pre .1 .1))) (c .before .before .before .before .before .before .before .before .older-below .result) (c .before .before .before .before .before .before .before .before .older-below .ensures) _ _ (c .before .before .before .before .before .before .next-open .ensures) (omega (arith, c .before .before .before .before .before .before .next-open .ensures .within, c .before .before .before .before .before .before .before .before .before .before .before .loop .inv .2 .within, c .before .before .before .before .before .before .before .before .before .end-at .ensures .0)) (ends-below g old b n _ _ _ _ _ _ s h _ (c .before .before .before .before .before .before .before .before .before .before .before .before .before .before .before .before .before .before .before .before .before .before .before .pre .1 .1) _ pl _ _ (w .fit .small) (w .fit .some) (c .before .before .before .before .before .before .before .before .before .before .highest2 .ensures) _ (c .before .before .before .before .before .before .before .before .before .end-at .ensures .1 _)) (c .before .before .before .before .before .if1 .taken) _ (c .before .before .finish .ensures) (omega (arith, c .before .before .before .before .if2 .left)))
 
 pass-states-mul-passed : (t : ℕ) → pass-states-lts.Need-mul-passed (pass-states-claims t) (pass-states-at t) pass-states.Post pass-states-Inv-loop pass-states-μ-loop
-pass-states-mul-passed t c = omega (arith, c .if1 .left, c .before .before .before .end-at .ensures .0, c .before .before .before .before .before .before .before .before .before .before .before .before .before .before .before .pre .1 .0 .entries)
+pass-states-mul-passed t c = omega (arith, c .if1 .left, c .before .before .before .before .end-at .ensures .0, c .before .before .before .before .before .before .before .before .before .before .before .before .before .before .before .before .before .before .pre .1 .0 .entries, c .before .before .before .before .before .before .before .before .before .before .before .before .before .before .before .before .before .before .good)
 
 pass-states-add-passed : (t : ℕ) → pass-states-lts.Need-add-passed (pass-states-claims t) (pass-states-at t) pass-states.Post pass-states-Inv-loop pass-states-μ-loop
-pass-states-add-passed t c = omega (arith, c .if1 .left, c .before .before .before .end-at .ensures .0, c .before .before .before .before .before .before .before .before .before .before .before .before .before .before .before .pre .1 .0 .entries)
+pass-states-add-passed t c = omega (arith, c .if1 .left, c .before .before .before .before .end-at .ensures .0, c .before .before .before .before .before .before .before .before .before .before .before .before .before .before .before .before .before .before .pre .1 .0 .entries, c .before .before .before .before .before .before .before .before .before .before .before .before .before .before .before .before .before .before .good)
 
 pass-states-mul-passed-2 : (t : ℕ) → pass-states-lts.Need-mul-passed-2 (pass-states-claims t) (pass-states-at t) pass-states.Post pass-states-Inv-loop pass-states-μ-loop
-pass-states-mul-passed-2 t c = omega (arith, c .if1 .left, c .before .before .before .end-at .ensures .0, c .before .before .before .before .before .before .before .before .before .before .before .before .before .before .before .pre .1 .0 .entries)
+pass-states-mul-passed-2 t c = omega (arith, c .if1 .left, c .before .before .before .before .end-at .ensures .0, c .before .before .before .before .before .before .before .before .before .before .before .before .before .before .before .before .before .before .pre .1 .0 .entries, c .before .before .before .before .before .before .before .before .before .before .before .before .before .before .before .before .before .before .good)
 
 pass-states-shared-slice-read-passed : (t : ℕ) → pass-states-lts.Need-shared-slice-read-passed (pass-states-claims t) (pass-states-at t) pass-states.Post pass-states-Inv-loop pass-states-μ-loop
-pass-states-shared-slice-read-passed t c = omega (arith, c .before .if1 .left, c .before .before .before .before .end-at .ensures .0, c .before .before .before .before .before .before .before .before .before .before .before .before .before .before .before .before .pre .1 .0 .entries)
+pass-states-shared-slice-read-passed t c = omega (arith, c .before .if1 .left, c .before .before .before .before .before .end-at .ensures .0, c .before .before .before .before .before .before .before .before .before .before .before .before .before .before .before .before .before .before .before .pre .1 .0 .entries)
+
+pass-states-mul-still-late : (t : ℕ) → pass-states-lts.Need-mul-still-late (pass-states-claims t) (pass-states-at t) pass-states.Post pass-states-Inv-loop pass-states-μ-loop
+pass-states-mul-still-late t c = omega (arith, c .before .if1 .left, c .before .before .before .before .before .end-at .ensures .0, c .before .before .before .before .before .before .before .before .before .before .before .before .before .before .before .before .before .before .before .pre .1 .0 .entries, c .before .before .before .before .before .before .before .before .before .before .before .before .before .before .before .before .before .before .before .good)
+
+pass-states-mul-still-late-2 : (t : ℕ) → pass-states-lts.Need-mul-still-late-2 (pass-states-claims t) (pass-states-at t) pass-states.Post pass-states-Inv-loop pass-states-μ-loop
+pass-states-mul-still-late-2 t c = omega (arith, c .before .if1 .left, c .before .before .before .before .before .end-at .ensures .0, c .before .before .before .before .before .before .before .before .before .before .before .before .before .before .before .before .before .before .before .pre .1 .0 .entries, c .before .before .before .before .before .before .before .before .before .before .before .before .before .before .before .before .before .before .before .good)
+
+pass-states-shared-slice-read-still-late :
+    (t : ℕ) → pass-states-lts.Need-shared-slice-read-still-late (
+      tag-of-reads.Asked,
+      tag-of-reads.Learnt,
+      fresh-on-reads.Asked,
+      fresh-on-reads.Learnt,
+      highest-reads.Asked,
+      highest-reads.Learnt,
+      start-at-reads.Asked,
+      start-at-reads.Learnt,
+      end-at-reads.Asked,
+      end-at-reads.Learnt,
+      older-below-reads.Asked,
+      older-below-reads.Learnt,
+      next-open-reads.Asked,
+      next-open-reads.Learnt,
+      finish-reads.Asked,
+      finish-reads.Learnt,
+      still-late-reads.Asked,
+      still-late-reads.Learnt,
+      rules-after-below t,
+      rules-after.Post,
+    ) (pass-states-at t) pass-states.Post pass-states-Inv-loop pass-states-μ-loop
+pass-states-shared-slice-read-still-late t c = omega (arith, c .before .before .if1 .left, c .before .before .before .before .before .before .end-at .ensures .0, c .before .before .before .before .before .before .before .before .before .before .before .before .before .before .before .before .before .before .before .before .pre .1 .0 .entries)
+
+pass-states-still-late-requires : (t : ℕ) → pass-states-lts.Need-still-late-requires (pass-states-claims t) (pass-states-at t) pass-states.Post pass-states-Inv-loop pass-states-μ-loop
+pass-states-still-late-requires t c κs = search needs
 
 pass-states-rules-after-requires : (t : ℕ) → pass-states-lts.Need-rules-after-requires (pass-states-claims t) (pass-states-at t) pass-states.Post pass-states-Inv-loop pass-states-μ-loop
-pass-states-rules-after-requires t c κs = (omega (arith, c .before .before .before .before .before .before .before .before .before .before .before .before .before .before .before .before .before .before .before .pre .0), (c .before .before .before .before .before .before .before .before .before .before .before .before .before .before .before .before .before .before .before .pre .1 .0, c .before .before .before .before .before .before .before .before .before .before .before .before .before .before .before .before .before .before .before .pre .1 .1))
+pass-states-rules-after-requires t c κs = (omega (arith, c .before .before .before .before .before .before .before .before .before .before .before .before .before .before .before .before .before .before .before .before .before .before .before .before .pre .0), (c .before .before .before .before .before .before .before .before .before .before .before .before .before .before .before .before .before .before .before .before .before .before .before .before .pre .1 .0, c .before .before .before .before .before .before .before .before .before .before .before .before .before .before .before .before .before .before .before .before .before .before .before .before .pre .1 .1))
 
 pass-states-add-i : (t : ℕ) → pass-states-lts.Need-add-i (pass-states-claims t) (pass-states-at t) pass-states.Post pass-states-Inv-loop pass-states-μ-loop
-pass-states-add-i t c = omega (arith, c .before .before .before .before .before .before .before .before .before .if1 .left, c .before .before .before .before .before .before .before .before .before .before .before .before .end-at .ensures .0, c .before .before .before .before .before .before .before .before .before .before .before .before .before .before .before .before .before .before .before .before .before .before .before .before .pre .1 .0 .entries)
+pass-states-add-i t c = omega (arith, c .before .before .before .before .before .before .before .before .before .before .before .if1 .left, c .before .before .before .before .before .before .before .before .before .before .before .before .before .before .before .end-at .ensures .0, c .before .before .before .before .before .before .before .before .before .before .before .before .before .before .before .before .before .before .before .before .before .before .before .before .before .before .before .before .before .pre .1 .0 .entries)
 
 pass-states-loop-less-2 : (t : ℕ) → pass-states-lts.Need-loop-less-2 (pass-states-claims t) (pass-states-at t) pass-states.Post pass-states-Inv-loop pass-states-μ-loop
-pass-states-loop-less-2 t c = falls-here _ _ _ _ _ (c .before .before .before .before .before .before .before .before .before .before .next-open .ensures .after) (omega (arith, c .before .before .before .before .before .before .before .before .before .if1 .left, c .before .before .before .before .before .before .before .before .before .before .before .before .end-at .ensures .0))
+pass-states-loop-less-2 t c = falls-here _ _ _ _ _ (c .before .before .before .before .before .before .before .before .before .before .before .before .next-open .ensures .after) (omega (arith, c .before .before .before .before .before .before .before .before .before .before .before .if1 .left, c .before .before .before .before .before .before .before .before .before .before .before .before .before .before .before .end-at .ensures .0))
 
 pass-states-loop-again-2 : (t : ℕ) → pass-states-lts.Need-loop-again-2 (pass-states-claims t) (pass-states-at t) pass-states.Post pass-states-Inv-loop pass-states-μ-loop
-pass-states-loop-again-2 t c = (c .before .before .before .before .rules-after .ensures .1 .0 ∙ c .before .before .before .before .before .before .before .before .before .before .before .before .before .before .loop .inv .0, c .before .before .before .before .rules-after .ensures .1 .1 ∙ c .before .before .before .before .before .before .before .before .before .before .before .before .before .before .loop .inv .1, bounded-at _ _ _ _ _ _ _ (c .before .before .before .before .before .before .before .before .before .before .before .before .before .before .loop .inv .2) _ (omega (arith, c .before .before .before .before .before .before .before .before .before .if1 .left, c .before .before .before .before .before .before .before .before .before .before .before .before .end-at .ensures .0)), λ g old b n s h pl whole small. let w = c .before .before .before .before .before .before .before .before .before .before .before .before .before .before .loop .inv .3 g old b n s h pl whole small in walk-takes g old b n _ _ _ _ s _ _ _ _ _ _ _ _ _ _ _ _ w whole (within g old b n _ _ _ _ _ _ s h _ (c .before .before .before .before .before .before .before .before .before .before .before .before .before .before .before .before .before .before .before .before .before .before .before .before .pre .1 .1)) _ (c .before .before .before .before .before .before .before .before .before .before .before .before .before .highest2 .ensures) _ (c .before .before .before .before .before .before .before .before .before .before .before .before .before .before .before .before .before .before .tag-of .ensures) _ (rest-is _ _ (c .before .before .before .before .before .before .before .before .before .before .before .before .before .highest2 .ensures)) _ _ (c .before .before .before .before .before .before .before .before .before .before .next-open .ensures) (omega (arith, c .before .before .before .before .before .before .before .before .before .before .next-open .ensures .within, c .before .before .before .before .before .before .before .before .before .before .before .before .before .before .loop .inv .2 .within, c .before .before .before .before .before .before .before .before .before .before .before .before .end-at .ensures .0)) (ends-below g old b n _ _ _ _ _ _ s h _ (c .before .before .before .before .before .before .before .before .before .before .before .before .before .before .before .before .before .before .before .before .before .before .before .before .pre .1 .1) _ pl _ _ (w .fit .small) (w .fit .some) (c .before .before .before .before .before .before .before .before .before .before .before .before .before .highest2 .ensures) _ (c .before .before .before .before .before .before .before .before .before .before .before .before .end-at .ensures .1 _)) (c .before .before .before .before .before .before .before .before .before .if1 .left) (below-small g old b n _ _ _ _ _ _ s h _ (c .before .before .before .before .before .before .before .before .before .before .before .before .before .before .before .before .before .before .before .before .before .before .before .before .pre .1 .1) _ pl) _ refl (c .before .before .before .before .before .before .before .if3 .taken) _ _ _ (c .before .before .before .before .rules-after .ensures .0 g old b n (w .now) (w .entered) pl whole (word-adds g old b n _ _ _ _ _ _ (w .now) (w .entered) (c .before .before .before .before .before .before .before .before .before .before .next-open .result) (c .before .before .before .before .before .before .before .before .before .before .before .before .before .before .loop .union) (omega (arith, c .before .before .before .before .before .before .before .before .before .if1 .left, c .before .before .before .before .before .before .before .before .before .before .before .before .end-at .ensures .0)))))
+pass-states-loop-again-2 t c = (c .before .before .before .before .rules-after .ensures .1 .0 ∙ c .before .before .before .before .before .before .before .before .before .before .before .before .before .before .before .before .before .loop .inv .0, c .before .before .before .before .rules-after .ensures .1 .1 ∙ c .before .before .before .before .before .before .before .before .before .before .before .before .before .before .before .before .before .loop .inv .1, bounded-at _ _ _ _ _ _ _ _ (c .before .before .before .before .before .before .before .before .before .before .before .before .before .before .before .before .before .loop .inv .2) _ (omega (arith, c .before .before .before .before .before .before .before .before .before .before .before .if1 .left, c .before .before .before .before .before .before .before .before .before .before .before .before .before .before .before .end-at .ensures .0)), λ g old b n s h pl ag whole small past. let w = c .before .before .before .before .before .before .before .before .before .before .before .before .before .before .before .before .before .loop .inv .3 g old b n s h pl ag whole small past in walk-takes g old b n _ _ _ _ s _ _ _ _ _ _ _ _ _ _ _ _ _ _ w whole (within g old b n _ _ _ _ _ _ s h _ (c .before .before .before .before .before .before .before .before .before .before .before .before .before .before .before .before .before .before .before .before .before .before .before .before .before .before .before .before .before .pre .1 .1)) _ (c .before .before .before .before .before .before .before .before .before .before .before .before .before .before .before .before .highest2 .ensures) _ (c .before .before .before .before .before .before .before .before .before .before .before .before .before .before .before .before .before .before .before .before .before .before .tag-of .ensures) _ (rest-is _ _ (c .before .before .before .before .before .before .before .before .before .before .before .before .before .before .before .before .highest2 .ensures)) (c .before .before .before .before .before .before .before .before .before .before .before .before .before .before .before .before .before .before .before .before .before .before .before .before .before .before .before .before .before .args .fresh .now) ag (c .before .before .before .before .before .before .before .before .before .before .before .before .before .before .before .before .before .before .before .before .fresh-on .result) (c .before .before .before .before .before .before .before .before .before .before .before .before .before .before .before .before .before .before .before .before .fresh-on .ensures ∙ ap (λ (a : ℕ). getD (c .before .before .before .before .before .before .before .before .before .before .before .before .before .before .before .before .before .before .before .before .before .before .before .before .before .before .before .before .before .args .fresh .now) a 0) (below-is g old b n _ _ _ _ _ _ s h _ (c .before .before .before .before .before .before .before .before .before .before .before .before .before .before .before .before .before .before .before .before .before .before .before .before .before .before .before .before .before .pre .1 .1))) (c .before .before .before .before .before .before .before .before .before .before .before .before .before .before .older-below .result) (c .before .before .before .before .before .before .before .before .before .before .before .before .before .before .older-below .ensures) _ _ (c .before .before .before .before .before .before .before .before .before .before .before .before .next-open .ensures) (omega (arith, c .before .before .before .before .before .before .before .before .before .before .before .before .next-open .ensures .within, c .before .before .before .before .before .before .before .before .before .before .before .before .before .before .before .before .before .loop .inv .2 .within, c .before .before .before .before .before .before .before .before .before .before .before .before .before .before .before .end-at .ensures .0)) (ends-below g old b n _ _ _ _ _ _ s h _ (c .before .before .before .before .before .before .before .before .before .before .before .before .before .before .before .before .before .before .before .before .before .before .before .before .before .before .before .before .before .pre .1 .1) _ pl _ _ (w .fit .small) (w .fit .some) (c .before .before .before .before .before .before .before .before .before .before .before .before .before .before .before .before .highest2 .ensures) _ (c .before .before .before .before .before .before .before .before .before .before .before .before .before .before .before .end-at .ensures .1 _)) (c .before .before .before .before .before .before .before .before .before .before .before .if1 .left) (below-small g old b n _ _ _ _ _ _ s h _ (c .before .before .before .before .before .before .before .before .before .before .before .before .before .before .before .before .before .before .before .before .before .before .before .before .before .before .before .before .before .pre .1 .1) _ pl) _ refl (c .before .before .before .before .before .before .before .if3 .taken) _ _ _ (c .before .before .before .before .rules-after .ensures .0 g old b n (w .now) (w .entered) pl ag whole (word-adds g old b n _ _ _ _ _ _ (w .now) (w .entered) (c .before .before .before .before .before .before .before .before .before .before .before .before .next-open .result) (c .before .before .before .before .before .before .before .before .before .before .before .before .before .before .before .before .before .loop .union) (omega (arith, c .before .before .before .before .before .before .before .before .before .before .before .if1 .left, c .before .before .before .before .before .before .before .before .before .before .before .before .before .before .before .end-at .ensures .0))) (past-last g old b n _ _ _ _ s _ _ _ _ _ _ _ _ _ _ _ _ _ _ w whole (within g old b n _ _ _ _ _ _ s h _ (c .before .before .before .before .before .before .before .before .before .before .before .before .before .before .before .before .before .before .before .before .before .before .before .before .before .before .before .before .before .pre .1 .1)) _ (c .before .before .before .before .before .before .before .before .before .before .before .before .before .before .before .before .highest2 .ensures) _ (c .before .before .before .before .before .before .before .before .before .before .before .before .before .before .before .before .before .before .before .before .before .before .tag-of .ensures) _ (rest-is _ _ (c .before .before .before .before .before .before .before .before .before .before .before .before .before .before .before .before .highest2 .ensures)) (c .before .before .before .before .before .before .before .before .before .before .before .before .before .before .before .before .before .before .before .before .before .before .before .before .before .before .before .before .before .args .fresh .now) ag (c .before .before .before .before .before .before .before .before .before .before .before .before .before .before .before .before .before .before .before .before .fresh-on .result) (c .before .before .before .before .before .before .before .before .before .before .before .before .before .before .before .before .before .before .before .before .fresh-on .ensures ∙ ap (λ (a : ℕ). getD (c .before .before .before .before .before .before .before .before .before .before .before .before .before .before .before .before .before .before .before .before .before .before .before .before .before .before .before .before .before .args .fresh .now) a 0) (below-is g old b n _ _ _ _ _ _ s h _ (c .before .before .before .before .before .before .before .before .before .before .before .before .before .before .before .before .before .before .before .before .before .before .before .before .before .before .before .before .before .pre .1 .1))) (c .before .before .before .before .before .before .before .before .before .before .before .before .before .before .older-below .result) (c .before .before .before .before .before .before .before .before .before .before .before .before .before .before .older-below .ensures) _ _ (c .before .before .before .before .before .before .before .before .before .before .before .before .next-open .ensures) (omega (arith, c .before .before .before .before .before .before .before .before .before .before .before .before .next-open .ensures .within, c .before .before .before .before .before .before .before .before .before .before .before .before .before .before .before .before .before .loop .inv .2 .within, c .before .before .before .before .before .before .before .before .before .before .before .before .before .before .before .end-at .ensures .0)) (ends-below g old b n _ _ _ _ _ _ s h _ (c .before .before .before .before .before .before .before .before .before .before .before .before .before .before .before .before .before .before .before .before .before .before .before .before .before .before .before .before .before .pre .1 .1) _ pl _ _ (w .fit .small) (w .fit .some) (c .before .before .before .before .before .before .before .before .before .before .before .before .before .before .before .before .highest2 .ensures) _ (c .before .before .before .before .before .before .before .before .before .before .before .before .before .before .before .end-at .ensures .1 _)) (c .before .before .before .before .before .before .before .before .before .before .before .if1 .left) (below-small g old b n _ _ _ _ _ _ s h _ (c .before .before .before .before .before .before .before .before .before .before .before .before .before .before .before .before .before .before .before .before .before .before .before .before .before .before .before .before .before .pre .1 .1) _ pl) _ refl (c .before .before .before .before .before .before .before .if3 .taken) (c .before .before .before .before .before .before .before .before .still-late .result) (c .before .before .before .before .before .before .before .before .still-late .ensures))))
 
 pass-states-mul-lefts : (t : ℕ) → pass-states-lts.Need-mul-lefts (pass-states-claims t) (pass-states-at t) pass-states.Post pass-states-Inv-loop pass-states-μ-loop
-pass-states-mul-lefts t c = omega (arith, deep _ _ _ _ _ _ _ (c .before .before .before .before .before .before .before .loop .inv .2))
+pass-states-mul-lefts t c = omega (arith, deep _ _ _ _ _ _ _ _ (c .before .before .before .before .before .before .before .before .before .before .loop .inv .2))
 
 pass-states-array-write-lefts : (t : ℕ) → pass-states-lts.Need-array-write-lefts (pass-states-claims t) (pass-states-at t) pass-states.Post pass-states-Inv-loop pass-states-μ-loop
-pass-states-array-write-lefts t c = omega (arith, deep _ _ _ _ _ _ _ (c .before .before .before .before .before .before .before .loop .inv .2), c .before .before .before .before .before .before .before .loop .inv .2 .lefts-long)
+pass-states-array-write-lefts t c = omega (arith, deep _ _ _ _ _ _ _ _ (c .before .before .before .before .before .before .before .before .before .before .loop .inv .2), c .before .before .before .before .before .before .before .before .before .before .loop .inv .2 .lefts-long)
 
 pass-states-mul-unions : (t : ℕ) → pass-states-lts.Need-mul-unions (pass-states-claims t) (pass-states-at t) pass-states.Post pass-states-Inv-loop pass-states-μ-loop
-pass-states-mul-unions t c = omega (arith, deep _ _ _ _ _ _ _ (c .before .before .before .before .before .before .before .loop .inv .2))
+pass-states-mul-unions t c = omega (arith, deep _ _ _ _ _ _ _ _ (c .before .before .before .before .before .before .before .before .before .before .loop .inv .2))
 
 pass-states-array-write-unions : (t : ℕ) → pass-states-lts.Need-array-write-unions (pass-states-claims t) (pass-states-at t) pass-states.Post pass-states-Inv-loop pass-states-μ-loop
-pass-states-array-write-unions t c = omega (arith, deep _ _ _ _ _ _ _ (c .before .before .before .before .before .before .before .loop .inv .2), c .before .before .before .before .before .before .before .loop .inv .2 .unions-long)
+pass-states-array-write-unions t c = omega (arith, deep _ _ _ _ _ _ _ _ (c .before .before .before .before .before .before .before .before .before .before .loop .inv .2), c .before .before .before .before .before .before .before .before .before .before .loop .inv .2 .unions-long)
 
 pass-states-add-nexts : (t : ℕ) → pass-states-lts.Need-add-nexts (pass-states-claims t) (pass-states-at t) pass-states.Post pass-states-Inv-loop pass-states-μ-loop
-pass-states-add-nexts t c = omega (arith, c .before .before .if1 .left, c .before .before .before .before .before .end-at .ensures .0, c .before .before .before .before .before .before .before .before .before .before .before .before .before .before .before .before .before .pre .1 .0 .entries)
+pass-states-add-nexts t c = omega (arith, c .before .before .before .before .if1 .left, c .before .before .before .before .before .before .before .before .end-at .ensures .0, c .before .before .before .before .before .before .before .before .before .before .before .before .before .before .before .before .before .before .before .before .before .before .pre .1 .0 .entries)
 
 pass-states-mul-nexts : (t : ℕ) → pass-states-lts.Need-mul-nexts (pass-states-claims t) (pass-states-at t) pass-states.Post pass-states-Inv-loop pass-states-μ-loop
-pass-states-mul-nexts t c = omega (arith, deep _ _ _ _ _ _ _ (c .before .before .before .before .before .before .before .loop .inv .2))
+pass-states-mul-nexts t c = omega (arith, deep _ _ _ _ _ _ _ _ (c .before .before .before .before .before .before .before .before .before .before .loop .inv .2))
 
 pass-states-array-write-nexts : (t : ℕ) → pass-states-lts.Need-array-write-nexts (pass-states-claims t) (pass-states-at t) pass-states.Post pass-states-Inv-loop pass-states-μ-loop
-pass-states-array-write-nexts t c = omega (arith, deep _ _ _ _ _ _ _ (c .before .before .before .before .before .before .before .loop .inv .2), c .before .before .before .before .before .before .before .loop .inv .2 .nexts-long)
+pass-states-array-write-nexts t c = omega (arith, deep _ _ _ _ _ _ _ _ (c .before .before .before .before .before .before .before .before .before .before .loop .inv .2), c .before .before .before .before .before .before .before .before .before .before .loop .inv .2 .nexts-long)
+
+pass-states-mul-limits : (t : ℕ) → pass-states-lts.Need-mul-limits (pass-states-claims t) (pass-states-at t) pass-states.Post pass-states-Inv-loop pass-states-μ-loop
+pass-states-mul-limits t c = omega (arith, deep _ _ _ _ _ _ _ _ (c .before .before .before .before .before .before .before .before .before .before .loop .inv .2))
+
+pass-states-array-write-limits : (t : ℕ) → pass-states-lts.Need-array-write-limits (pass-states-claims t) (pass-states-at t) pass-states.Post pass-states-Inv-loop pass-states-μ-loop
+pass-states-array-write-limits t c = omega (arith, deep _ _ _ _ _ _ _ _ (c .before .before .before .before .before .before .before .before .before .before .loop .inv .2), c .before .before .before .before .before .before .before .before .before .before .loop .inv .2 .limits-long)
 
 pass-states-add-depth : (t : ℕ) → pass-states-lts.Need-add-depth (pass-states-claims t) (pass-states-at t) pass-states.Post pass-states-Inv-loop pass-states-μ-loop
-pass-states-add-depth t c = omega (arith, deep _ _ _ _ _ _ _ (c .before .before .before .before .before .before .before .loop .inv .2))
+pass-states-add-depth t c = omega (arith, deep _ _ _ _ _ _ _ _ (c .before .before .before .before .before .before .before .before .before .before .loop .inv .2))
 
 pass-states-highest-requires-3 : (t : ℕ) → pass-states-lts.Need-highest-requires-3 (pass-states-claims t) (pass-states-at t) pass-states.Post pass-states-Inv-loop pass-states-μ-loop
 pass-states-highest-requires-3 t c κs = search needs
@@ -299,10 +375,16 @@ pass-states-start-at-requires-2 : (t : ℕ) → pass-states-lts.Need-start-at-re
 pass-states-start-at-requires-2 t c κs = search needs
 
 pass-states-loop-less-3 : (t : ℕ) → pass-states-lts.Need-loop-less-3 (pass-states-claims t) (pass-states-at t) pass-states.Post pass-states-Inv-loop pass-states-μ-loop
-pass-states-loop-less-3 t c = falls-after _ _ _ _ _ _ (deep _ _ _ _ _ _ _ (c .before .before .before .before .before .before .before .before .before .loop .inv .2)) (c .before .before .before .before .before .before .before .before .before .loop .inv .2 .nexts-long) (c .before .before .before .before .before .next-open .ensures .after) (omega (arith, c .before .before .before .before .if1 .left, c .before .before .before .before .before .before .before .end-at .ensures .0))
+pass-states-loop-less-3 t c = falls-after _ _ _ _ _ _ (deep _ _ _ _ _ _ _ _ (c .before .before .before .before .before .before .before .before .before .before .before .before .loop .inv .2)) (c .before .before .before .before .before .before .before .before .before .before .before .before .loop .inv .2 .nexts-long) (c .before .before .before .before .before .before .before .next-open .ensures .after) (omega (arith, c .before .before .before .before .before .before .if1 .left, c .before .before .before .before .before .before .before .before .before .before .end-at .ensures .0))
 
 pass-states-loop-again-3 : (t : ℕ) → pass-states-lts.Need-loop-again-3 (pass-states-claims t) (pass-states-at t) pass-states.Post pass-states-Inv-loop pass-states-μ-loop
-pass-states-loop-again-3 t c = (c .before .before .before .before .before .before .before .before .before .loop .inv .0, c .before .before .before .before .before .before .before .before .before .loop .inv .1, bounded-after _ _ _ _ _ _ _ (c .before .before .before .before .before .before .before .before .before .loop .inv .2) _ (c .before .before .before .before .before .before .before .before .highest2 .ensures) _ _ _ _ (rest-is _ _ (c .before .before .before .before .before .before .before .before .highest2 .ensures)) (c .before .before .if3 .left) (omega (arith, c .before .before .before .before .if1 .left, c .before .before .before .before .before .before .before .end-at .ensures .0)) (c .start-at2 .ensures .0), λ g old b n s h pl whole small. let w = c .before .before .before .before .before .before .before .before .before .loop .inv .3 g old b n s h pl whole small in walk-opens g old b n _ _ _ _ s _ _ _ _ _ _ _ _ _ _ _ _ w whole (within g old b n _ _ _ _ _ _ s h _ (c .before .before .before .before .before .before .before .before .before .before .before .before .before .before .before .before .before .before .before .pre .1 .1)) _ (c .before .before .before .before .before .before .before .before .highest2 .ensures) _ (c .before .before .before .before .before .before .before .before .before .before .before .before .before .tag-of .ensures) _ (rest-is _ _ (c .before .before .before .before .before .before .before .before .highest2 .ensures)) _ _ (c .before .before .before .before .before .next-open .ensures) (omega (arith, c .before .before .before .before .before .next-open .ensures .within, c .before .before .before .before .before .before .before .before .before .loop .inv .2 .within, c .before .before .before .before .before .before .before .end-at .ensures .0)) (ends-below g old b n _ _ _ _ _ _ s h _ (c .before .before .before .before .before .before .before .before .before .before .before .before .before .before .before .before .before .before .before .pre .1 .1) _ pl _ _ (w .fit .small) (w .fit .some) (c .before .before .before .before .before .before .before .before .highest2 .ensures) _ (c .before .before .before .before .before .before .before .end-at .ensures .1 _)) (c .before .before .before .before .if1 .left) (below-small g old b n _ _ _ _ _ _ s h _ (c .before .before .before .before .before .before .before .before .before .before .before .before .before .before .before .before .before .before .before .pre .1 .1) _ pl) _ refl (c .before .before .if3 .left) (deep _ _ _ _ _ _ _ (c .before .before .before .before .before .before .before .before .before .loop .inv .2)) (c .before .before .before .before .before .before .before .before .before .loop .inv .2 .lefts-long) (c .before .before .before .before .before .before .before .before .before .loop .inv .2 .unions-long) (c .before .before .before .before .before .before .before .before .before .loop .inv .2 .nexts-long) _ _ (c .before .highest3 .ensures) (starts-below g old b n _ _ _ _ _ _ s h _ (c .before .before .before .before .before .before .before .before .before .before .before .before .before .before .before .before .before .before .before .pre .1 .1) _ pl _ _ (rest-below _ _ _ _ (w .fit .small) (rest-is _ _ (c .before .before .before .before .before .before .before .before .highest2 .ensures)) (w .fit .some) (c .before .before .before .before .before .before .before .before .highest2 .ensures)) (omega (arith, c .before .before .if3 .left)) (c .before .highest3 .ensures) _ (c .start-at2 .ensures .1 _)))
+pass-states-loop-again-3 t c = (c .before .before .before .before .before .before .before .before .before .before .before .before .loop .inv .0, c .before .before .before .before .before .before .before .before .before .before .before .before .loop .inv .1, bounded-after _ _ _ _ _ _ _ _ (c .before .before .before .before .before .before .before .before .before .before .before .before .loop .inv .2) _ (c .before .before .before .before .before .before .before .before .before .before .before .highest2 .ensures) _ _ _ _ _ (rest-is _ _ (c .before .before .before .before .before .before .before .before .before .before .before .highest2 .ensures)) (c .before .before .if3 .left) (omega (arith, c .before .before .before .before .before .before .if1 .left, c .before .before .before .before .before .before .before .before .before .before .end-at .ensures .0)) (c .start-at2 .ensures .0), λ g old b n s h pl ag whole small past. let w = c .before .before .before .before .before .before .before .before .before .before .before .before .loop .inv .3 g old b n s h pl ag whole small past in walk-opens g old b n _ _ _ _ s _ _ _ _ _ _ _ _ _ _ _ _ _ _ w whole (within g old b n _ _ _ _ _ _ s h _ (c .before .before .before .before .before .before .before .before .before .before .before .before .before .before .before .before .before .before .before .before .before .before .before .before .pre .1 .1)) _ (c .before .before .before .before .before .before .before .before .before .before .before .highest2 .ensures) _ (c .before .before .before .before .before .before .before .before .before .before .before .before .before .before .before .before .before .tag-of .ensures) _ (rest-is _ _ (c .before .before .before .before .before .before .before .before .before .before .before .highest2 .ensures)) (c .before .before .before .before .before .before .before .before .before .before .before .before .before .before .before .before .before .before .before .before .before .before .before .before .args .fresh .now) ag (c .before .before .before .before .before .before .before .before .before .before .before .before .before .before .before .fresh-on .result) (c .before .before .before .before .before .before .before .before .before .before .before .before .before .before .before .fresh-on .ensures ∙ ap (λ (a : ℕ). getD (c .before .before .before .before .before .before .before .before .before .before .before .before .before .before .before .before .before .before .before .before .before .before .before .before .args .fresh .now) a 0) (below-is g old b n _ _ _ _ _ _ s h _ (c .before .before .before .before .before .before .before .before .before .before .before .before .before .before .before .before .before .before .before .before .before .before .before .before .pre .1 .1))) (c .before .before .before .before .before .before .before .before .before .older-below .result) (c .before .before .before .before .before .before .before .before .before .older-below .ensures) _ _ (c .before .before .before .before .before .before .before .next-open .ensures) (omega (arith, c .before .before .before .before .before .before .before .next-open .ensures .within, c .before .before .before .before .before .before .before .before .before .before .before .before .loop .inv .2 .within, c .before .before .before .before .before .before .before .before .before .before .end-at .ensures .0)) (ends-below g old b n _ _ _ _ _ _ s h _ (c .before .before .before .before .before .before .before .before .before .before .before .before .before .before .before .before .before .before .before .before .before .before .before .before .pre .1 .1) _ pl _ _ (w .fit .small) (w .fit .some) (c .before .before .before .before .before .before .before .before .before .before .before .highest2 .ensures) _ (c .before .before .before .before .before .before .before .before .before .before .end-at .ensures .1 _)) (c .before .before .before .before .before .before .if1 .left) (below-small g old b n _ _ _ _ _ _ s h _ (c .before .before .before .before .before .before .before .before .before .before .before .before .before .before .before .before .before .before .before .before .before .before .before .before .pre .1 .1) _ pl) _ refl (c .before .before .if3 .left) (deep _ _ _ _ _ _ _ _ (c .before .before .before .before .before .before .before .before .before .before .before .before .loop .inv .2)) (c .before .before .before .before .before .before .before .before .before .before .before .before .loop .inv .2 .lefts-long) (c .before .before .before .before .before .before .before .before .before .before .before .before .loop .inv .2 .unions-long) (c .before .before .before .before .before .before .before .before .before .before .before .before .loop .inv .2 .nexts-long) (c .before .before .before .before .before .before .before .before .before .before .before .before .loop .inv .2 .limits-long) _ _ (c .before .highest3 .ensures) (starts-below g old b n _ _ _ _ _ _ s h _ (c .before .before .before .before .before .before .before .before .before .before .before .before .before .before .before .before .before .before .before .before .before .before .before .before .pre .1 .1) _ pl _ _ (rest-below _ _ _ _ (w .fit .small) (rest-is _ _ (c .before .before .before .before .before .before .before .before .before .before .before .highest2 .ensures)) (w .fit .some) (c .before .before .before .before .before .before .before .before .before .before .before .highest2 .ensures)) (omega (arith, c .before .before .if3 .left)) (c .before .highest3 .ensures) _ (c .start-at2 .ensures .1 _)) (c .before .before .before .still-late .result) (c .before .before .before .still-late .ensures))
+
+rules-after-older-below-requires : (t : ℕ) → rules-after-lts.Need-older-below-requires (rules-after-claims t) (rules-after-at t) rules-after.Post
+rules-after-older-below-requires t c κs = omega (arith, c .before .before .before .before .before .before .pre .1 .0 .few, c .before .before .before .before .before .before .pre .1 .1)
+
+rules-after-returns : (t : ℕ) → rules-after-lts.Need-returns (rules-after-claims t) (rules-after-at t) rules-after.Post
+rules-after-returns t c = (λ g old b n s h pl ag whole some past. let known = c .before .older-below .ensures (c .if1 .taken) in none-older g old b n _ _ _ _ _ _ s h (c .before .before .before .before .before .before .before .before .args .fresh .now) ag _ 0 _ _ past (omega (arith, known .0, c .if1 .taken)) (known .1) refl, (refl, refl))
 
 rules-after-tag-of-requires : (t : ℕ) → rules-after-lts.Need-tag-of-requires (rules-after-claims t) (rules-after-at t) rules-after.Post
 rules-after-tag-of-requires t c κs = search needs
@@ -313,14 +395,14 @@ rules-after-is-finished-requires t c κs = search needs
 rules-after-same-length : (t : ℕ) → rules-after-lts.Need-same-length (rules-after-claims t) (rules-after-at t) rules-after.Post
 rules-after-same-length t c = search needs
 
-rules-after-returns : (t : ℕ) → rules-after-lts.Need-returns (rules-after-claims t) (rules-after-at t) rules-after.Post
-rules-after-returns t c = (λ g old b n s h pl whole some. hit g old b n _ _ _ _ _ _ s h _ _ _ _ whole (c .before .before .before .before .before .before .before .before .before .pre .1 .1) (c .before .before .before .tag-of .ensures) (c .before .is-finished .ensures (c .if1 .taken)), (refl, refl))
+rules-after-returns-2 : (t : ℕ) → rules-after-lts.Need-returns-2 (rules-after-claims t) (rules-after-at t) rules-after.Post
+rules-after-returns-2 t c = (λ g old b n s h pl ag whole some past. hit g old b n _ _ _ _ _ _ s h _ _ _ _ whole (c .before .before .before .before .before .before .before .before .before .before .before .before .pre .1 .1) (c .before .before .before .tag-of .ensures) (c .before .is-finished .ensures (c .if2 .taken)), (refl, refl))
 
 rules-after-add-rules-from : (t : ℕ) → rules-after-lts.Need-add-rules-from (rules-after-claims t) (rules-after-at t) rules-after.Post
 rules-after-add-rules-from t c = omega arith
 
 rules-after-rules-from-requires : (t : ℕ) → rules-after-lts.Need-rules-from-requires (rules-after-claims t) (rules-after-at t) rules-after.Post
-rules-after-rules-from-requires t c κs = (omega (arith, c .before .before .before .before .before .before .before .before .before .before .before .pre .0, c .before .before .before .before .before .before .before .before .before .before .before .pre .1 .1), (c .before .before .before .before .before .before .before .before .before .before .before .pre .1 .0, omega (arith, c .before .before .before .before .before .before .before .before .before .before .before .pre .1 .1)))
+rules-after-rules-from-requires t c κs = (omega (arith, c .before .before .before .before .before .before .before .before .before .before .before .before .before .before .pre .0, c .before .before .before .before .before .before .before .before .before .before .before .before .before .before .pre .1 .1), (c .before .before .before .before .before .before .before .before .before .before .before .before .before .before .pre .1 .0, omega (arith, c .before .before .before .before .before .before .before .before .before .before .before .before .before .before .pre .1 .1)))
 
 rules-after-finish-requires : (t : ℕ) → rules-after-lts.Need-finish-requires (rules-after-claims t) (rules-after-at t) rules-after.Post
 rules-after-finish-requires t c κs = search needs
@@ -331,14 +413,14 @@ rules-after-same-length-2 t c = search needs
 rules-after-same-length-3 : (t : ℕ) → rules-after-lts.Need-same-length-3 (rules-after-claims t) (rules-after-at t) rules-after.Post
 rules-after-same-length-3 t c = search needs
 
-rules-after-returns-2 : (t : ℕ) → rules-after-lts.Need-returns-2 (rules-after-claims t) (rules-after-at t) rules-after.Post
-rules-after-returns-2 t c = (λ g old b n s h pl whole some. notes g old b n _ _ _ _ _ _ s h _ _ _ _ whole (c .before .before .before .before .before .before .before .before .before .before .before .before .before .before .before .before .before .before .before .before .pre .1 .1) (c .before .before .before .before .before .before .before .before .before .before .before .before .before .before .tag-of .ensures) _ _ _ _ (none-of-it g old b n _ _ _ _ _ _ s h _ _ (c .before .before .before .before .before .before .before .before .rules-from .ensures .0 g old b n s h pl (later g _ _ whole) some)) (c .before .before .finish .ensures), (search needs, search needs))
+rules-after-returns-3 : (t : ℕ) → rules-after-lts.Need-returns-3 (rules-after-claims t) (rules-after-at t) rules-after.Post
+rules-after-returns-3 t c = (λ g old b n s h pl ag whole some past. notes g old b n _ _ _ _ _ _ s h _ _ _ _ whole (c .before .before .before .before .before .before .before .before .before .before .before .before .before .before .before .before .before .before .before .before .before .before .before .pre .1 .1) (c .before .before .before .before .before .before .before .before .before .before .before .before .before .before .tag-of .ensures) _ _ _ _ (none-of-it g old b n _ _ _ _ _ _ s h _ _ (c .before .before .before .before .before .before .before .before .rules-from .ensures .0 g old b n s h pl ag (later g _ _ whole) some (past-rest g old b n _ _ _ _ _ _ s h _ _ _ past))) (c .before .before .finish .ensures), (search needs, search needs))
 
 abbrev rules-from-Inv-loop : rules-from-lts.InvT-loop
-rules-from-Inv-loop job rules places work table₀ memo₀ count from union r at end filled₀ i₀ table memo filled i = (length table ≡ length table₀) × (length memo ≡ length memo₀) × ((g : PushdownGame) (old : List Entry) (birthdate n : ℕ) (s : Growing) → Entered g old birthdate n job rules work table₀ count memo₀ s → Placing g work (job .count) places → Late g job from → Scanning g old birthdate n job rules work (beginOf g old (job .state) (job .letter) (job .end) r union) s i table filled memo)
+rules-from-Inv-loop job rules places fresh work table₀ memo₀ count from union late r at end filled₀ i₀ table memo filled i = (length table ≡ length table₀) × (length memo ≡ length memo₀) × ((g : PushdownGame) (old : List Entry) (birthdate n : ℕ) (s : Growing) → Entered g old birthdate n job rules work table₀ count memo₀ s → Placing g work (job .count) places → Aging g old birthdate job fresh → Late g job from → Past birthdate n late (map (entryAt (job .state) (job .letter) birthdate (job .field)) (restRuns g (older birthdate old) (rulesBetween g (job .state) (job .letter) from (job .end)) union)) s → Scanning g old birthdate n job rules work (beginOf g old (job .state) (job .letter) (job .end) r union) s i table filled memo)
 
 abbrev rules-from-μ-loop : rules-from-lts.MeasureT-loop
-rules-from-μ-loop job rules places work table₀ memo₀ count from union r at end filled₀ i₀ table memo filled i = end - i
+rules-from-μ-loop job rules places fresh work table₀ memo₀ count from union late r at end filled₀ i₀ table memo filled i = end - i
 
 rules-from-next-rule-requires : (t : ℕ) → rules-from-lts.Need-next-rule-requires (rules-from-claims t) (rules-from-at t) rules-from.Post rules-from-Inv-loop rules-from-μ-loop
 rules-from-next-rule-requires t c κs = search needs
@@ -350,7 +432,7 @@ rules-from-same-length : (t : ℕ) → rules-from-lts.Need-same-length (rules-fr
 rules-from-same-length t c = search needs
 
 rules-from-returns : (t : ℕ) → rules-from-lts.Need-returns (rules-from-claims t) (rules-from-at t) rules-from.Post rules-from-Inv-loop rules-from-μ-loop
-rules-from-returns t c = (λ g old b n s h pl late some. no-rule g old b n _ _ _ _ _ _ s h _ _ _ (c .before .before .before .before .before .before .next-rule .ensures) (c .before .before .before .before .if1 .taken) some (omega arith) _ _ (λ small. c .before .before .insert .ensures .0 n s (long-of n _ _ s (h .filled)) (h .filled) small), (c .before .before .insert .ensures .1, refl))
+rules-from-returns t c = (λ g old b n s h pl ag late some past. no-rule g old b n _ _ _ _ _ _ s h _ _ _ (c .before .before .before .before .before .before .next-rule .ensures) (c .before .before .before .before .if1 .taken) some (omega arith) _ _ (λ small. c .before .before .insert .ensures .0 n s (long-of n _ _ s (h .filled)) (h .filled) small), (c .before .before .insert .ensures .1, refl))
 
 rules-from-mul-at : (t : ℕ) → rules-from-lts.Need-mul-at (rules-from-claims t) (rules-from-at t) rules-from.Post rules-from-Inv-loop rules-from-μ-loop
 rules-from-mul-at t c = omega arith
@@ -371,7 +453,7 @@ rules-from-joined-requires : (t : ℕ) → rules-from-lts.Need-joined-requires (
 rules-from-joined-requires t c κs = search needs
 
 rules-from-rules-after-requires : (t : ℕ) → rules-from-lts.Need-rules-after-requires (rules-from-claims t) (rules-from-at t) rules-from.Post rules-from-Inv-loop rules-from-μ-loop
-rules-from-rules-after-requires t c κs = (omega (arith, c .before .before .before .before .before .before .before .before .before .before .before .before .before .before .pre .0, c .before .before .before .before .before .before .before .before .next-rule .ensures .after, c .before .before .before .before .before .before .if1 .left), (c .before .before .before .before .before .before .before .before .before .before .before .before .before .before .pre .1 .0, c .before .before .before .before .before .before .if1 .left))
+rules-from-rules-after-requires t c κs = (omega (arith, c .before .before .before .before .before .before .before .before .before .before .before .before .before .before .before .pre .0, c .before .before .before .before .before .before .before .before .next-rule .ensures .after, c .before .before .before .before .before .before .if1 .left), (c .before .before .before .before .before .before .before .before .before .before .before .before .before .before .before .pre .1 .0, c .before .before .before .before .before .before .if1 .left))
 
 rules-from-same-length-2 : (t : ℕ) → rules-from-lts.Need-same-length-2 (rules-from-claims t) (rules-from-at t) rules-from.Post rules-from-Inv-loop rules-from-μ-loop
 rules-from-same-length-2 t c = search needs
@@ -380,7 +462,7 @@ rules-from-same-length-3 : (t : ℕ) → rules-from-lts.Need-same-length-3 (rule
 rules-from-same-length-3 t c = search needs
 
 rules-from-returns-2 : (t : ℕ) → rules-from-lts.Need-returns-2 (rules-from-claims t) (rules-from-at t) rules-from.Post rules-from-Inv-loop rules-from-μ-loop
-rules-from-returns-2 t c = (λ g old b n s h pl late some. let next = c .before .before .before .before .before .before .before .before .before .before .before .before .before .next-rule .ensures in let l = c .before .before .before .before .before .before .before .before .before .before .before .if1 .left in pops-first g old b n _ _ _ _ _ _ s h _ _ _ next l (sym (count-is g old b n _ _ _ _ _ _ s h _ l) ∙ c .before .before .before .before .before .before .before .before .before .if2 .taken) _ (joins g old b n _ _ _ _ _ _ s h _ (c .before .before .before .before .before .before .before .before .before .before .before .before .before .before .before .before .before .before .before .args .union) _ next l _ (c .before .before .before .before .before .before .before .joined .ensures)) (c .before .before .before .before .rules-after .ensures .0 g old b n s h pl (job-of g old b n _ _ _ _ _ _ s h _ (c .before .before .before .before .before .before .before .before .before .before .before .before .before .before .before .before .before .before .before .args .union) _ next l late) (joins-some g old b n _ _ _ _ _ _ s h _ (c .before .before .before .before .before .before .before .before .before .before .before .before .before .before .before .before .before .before .before .args .union) _ next l _ (c .before .before .before .before .before .before .before .joined .ensures))), c .before .before .before .before .rules-after .ensures .1)
+rules-from-returns-2 t c = (λ g old b n s h pl ag late some past. let next = c .before .before .before .before .before .before .before .before .before .before .before .before .before .next-rule .ensures in let l = c .before .before .before .before .before .before .before .before .before .before .before .if1 .left in pops-first g old b n _ _ _ _ _ _ s h _ _ _ next l (sym (count-is g old b n _ _ _ _ _ _ s h _ l) ∙ c .before .before .before .before .before .before .before .before .before .if2 .taken) _ (joins g old b n _ _ _ _ _ _ s h _ (c .before .before .before .before .before .before .before .before .before .before .before .before .before .before .before .before .before .before .before .before .args .union) _ next l _ (c .before .before .before .before .before .before .before .joined .ensures)) (c .before .before .before .before .rules-after .ensures .0 g old b n s h pl ag (job-of g old b n _ _ _ _ _ _ s h _ (c .before .before .before .before .before .before .before .before .before .before .before .before .before .before .before .before .before .before .before .before .args .union) _ next l late) (joins-some g old b n _ _ _ _ _ _ s h _ (c .before .before .before .before .before .before .before .before .before .before .before .before .before .before .before .before .before .before .before .before .args .union) _ next l _ (c .before .before .before .before .before .before .before .joined .ensures)) (past-pops g old b n _ _ _ _ _ _ s h _ (c .before .before .before .before .before .before .before .before .before .before .before .before .before .before .before .before .before .before .before .before .args .union) _ next l _ past (sym (count-is g old b n _ _ _ _ _ _ s h _ l) ∙ c .before .before .before .before .before .before .before .before .before .if2 .taken) _ (joins g old b n _ _ _ _ _ _ s h _ (c .before .before .before .before .before .before .before .before .before .before .before .before .before .before .before .before .before .before .before .before .args .union) _ next l _ (c .before .before .before .before .before .before .before .joined .ensures)))), c .before .before .before .before .rules-after .ensures .1)
 
 rules-from-add-end-at : (t : ℕ) → rules-from-lts.Need-add-end-at (rules-from-claims t) (rules-from-at t) rules-from.Post rules-from-Inv-loop rules-from-μ-loop
 rules-from-add-end-at t c = omega arith
@@ -429,10 +511,10 @@ rules-from-start-at-requires : (t : ℕ) → rules-from-lts.Need-start-at-requir
 rules-from-start-at-requires t c κs = search needs
 
 rules-from-loop-holds : (t : ℕ) → rules-from-lts.Need-loop-holds (rules-from-claims t) (rules-from-at t) rules-from.Post rules-from-Inv-loop rules-from-μ-loop
-rules-from-loop-holds t c = (refl, refl, λ g old b n s h pl late. scan-from g old b n _ _ _ _ _ _ (begins-nothing g old _ _ _ _ (c .before .before .before .before .before .before .before .before .before .before .before .before .before .before .before .before .args .union) _ _ (to-is g old b n _ _ _ _ _ _ s h _ (c .before .before .before .before .before .before .before .before .if1 .left)) (above-is g old b n _ _ _ _ _ _ s h _ (c .before .before .before .before .before .before .before .before .if1 .left))) _ _ _ s h _ (c .start-at .ensures .1 _ (above-placed g old b n _ _ _ _ _ _ s h _ (c .before .before .before .before .before .before .before .before .if1 .left) _ pl)))
+rules-from-loop-holds t c = (refl, refl, λ g old b n s h pl ag late past. scan-from g old b n _ _ _ _ _ _ (begins-nothing g old _ _ _ _ (c .before .before .before .before .before .before .before .before .before .before .before .before .before .before .before .before .before .args .union) _ _ (to-is g old b n _ _ _ _ _ _ s h _ (c .before .before .before .before .before .before .before .before .if1 .left)) (above-is g old b n _ _ _ _ _ _ s h _ (c .before .before .before .before .before .before .before .before .if1 .left))) _ _ _ s h _ (c .start-at .ensures .1 _ (above-placed g old b n _ _ _ _ _ _ s h _ (c .before .before .before .before .before .before .before .before .if1 .left) _ pl)))
 
 rules-from-runs-with-requires : (t : ℕ) → rules-from-lts.Need-runs-with-requires (rules-from-claims t) (rules-from-at t) rules-from.Post rules-from-Inv-loop rules-from-μ-loop
-rules-from-runs-with-requires t c κs = (omega (arith, c .before .before .before .before .before .before .before .before .before .before .before .before .before .before .before .before .before .before .before .before .pre .0, c .before .before .before .before .before .before .before .before .before .before .before .before .before .before .next-rule .ensures .after, c .before .before .before .before .before .before .before .before .before .before .before .before .if1 .left), (c .before .before .before .before .before .before .before .before .before .before .before .before .before .before .before .before .before .before .before .before .pre .1 .0, c .before .before .before .before .before .before .before .before .before .before .before .before .if1 .left, omega (arith, c .before .before .loop-test .taken, c .before .before .before .before .before .before .before .end-at .ensures .0)))
+rules-from-runs-with-requires t c κs = (omega (arith, c .before .before .before .before .before .before .before .before .before .before .before .before .before .before .before .before .before .before .before .before .before .pre .0, c .before .before .before .before .before .before .before .before .before .before .before .before .before .before .next-rule .ensures .after, c .before .before .before .before .before .before .before .before .before .before .before .before .if1 .left), (c .before .before .before .before .before .before .before .before .before .before .before .before .before .before .before .before .before .before .before .before .before .pre .1 .0, c .before .before .before .before .before .before .before .before .before .before .before .before .if1 .left, omega (arith, c .before .before .loop-test .taken, c .before .before .before .before .before .before .before .end-at .ensures .0)))
 
 rules-from-add-i : (t : ℕ) → rules-from-lts.Need-add-i (rules-from-claims t) (rules-from-at t) rules-from.Post rules-from-Inv-loop rules-from-μ-loop
 rules-from-add-i t c = omega arith
@@ -441,7 +523,7 @@ rules-from-loop-less : (t : ℕ) → rules-from-lts.Need-loop-less (rules-from-c
 rules-from-loop-less t c = omega arith
 
 rules-from-loop-again : (t : ℕ) → rules-from-lts.Need-loop-again (rules-from-claims t) (rules-from-at t) rules-from.Post rules-from-Inv-loop rules-from-μ-loop
-rules-from-loop-again t c = (c .before .before .before .before .runs-with .ensures .1 .0 ∙ c .before .before .before .before .before .before .before .before .loop .inv .0, c .before .before .before .before .runs-with .ensures .1 .1 ∙ c .before .before .before .before .before .before .before .before .loop .inv .1, λ g old b n s h pl late. let k = c .before .before .before .before .before .before .before .before .loop .inv .2 g old b n s h pl late in scan-next g old b n _ _ _ _ s _ _ _ _ k (omega (arith, c .before .before .before .before .before .before .before .loop-test .taken, c .before .before .before .before .before .before .before .before .before .before .before .before .end-at .ensures .0)) _ _ _ (begun g old b n _ _ _ _ _ _ (k .now) (k .entered) _ _ _ (c .before .before .before .before .runs-with .ensures .0 g old b n (k .now) (k .entered) pl (job-of g old b n _ _ _ _ _ _ s h _ (c .before .before .before .before .before .before .before .before .before .before .before .before .before .before .before .before .before .before .before .before .before .before .before .before .before .args .union) _ (c .before .before .before .before .before .before .before .before .before .before .before .before .before .before .before .before .before .before .before .next-rule .ensures) (c .before .before .before .before .before .before .before .before .before .before .before .before .before .before .before .before .before .if1 .left) late))))
+rules-from-loop-again t c = (c .before .before .before .before .runs-with .ensures .1 .0 ∙ c .before .before .before .before .before .before .before .before .loop .inv .0, c .before .before .before .before .runs-with .ensures .1 .1 ∙ c .before .before .before .before .before .before .before .before .loop .inv .1, λ g old b n s h pl ag late past. let k = c .before .before .before .before .before .before .before .before .loop .inv .2 g old b n s h pl ag late past in scan-next g old b n _ _ _ _ s _ _ _ _ k (omega (arith, c .before .before .before .before .before .before .before .loop-test .taken, c .before .before .before .before .before .before .before .before .before .before .before .before .end-at .ensures .0)) _ _ _ (begun g old b n _ _ _ _ _ _ (k .now) (k .entered) _ _ _ (c .before .before .before .before .runs-with .ensures .0 g old b n (k .now) (k .entered) pl ag (job-of g old b n _ _ _ _ _ _ s h _ (c .before .before .before .before .before .before .before .before .before .before .before .before .before .before .before .before .before .before .before .before .before .before .before .before .before .before .args .union) _ (c .before .before .before .before .before .before .before .before .before .before .before .before .before .before .before .before .before .before .before .next-rule .ensures) (c .before .before .before .before .before .before .before .before .before .before .before .before .before .before .before .before .before .if1 .left) late) (λ some. let p = past-writes g old b n _ _ _ _ _ _ s h _ (c .before .before .before .before .before .before .before .before .before .before .before .before .before .before .before .before .before .before .before .before .before .before .before .before .before .before .args .union) _ (c .before .before .before .before .before .before .before .before .before .before .before .before .before .before .before .before .before .before .before .next-rule .ensures) (c .before .before .before .before .before .before .before .before .before .before .before .before .before .before .before .before .before .if1 .left) _ past (λ z. c .before .before .before .before .before .before .before .before .before .before .before .before .before .before .before .if2 .left (count-is g old b n _ _ _ _ _ _ s h _ (c .before .before .before .before .before .before .before .before .before .before .before .before .before .before .before .before .before .if1 .left) ∙ z)) some in (p .0, k .kept _ (p .1))))))
 
 rules-from-same-length-4 : (t : ℕ) → rules-from-lts.Need-same-length-4 (rules-from-claims t) (rules-from-at t) rules-from.Post rules-from-Inv-loop rules-from-μ-loop
 rules-from-same-length-4 t c = search needs
@@ -450,7 +532,7 @@ rules-from-same-length-5 : (t : ℕ) → rules-from-lts.Need-same-length-5 (rule
 rules-from-same-length-5 t c = search needs
 
 rules-from-returns-3 : (t : ℕ) → rules-from-lts.Need-returns-3 (rules-from-claims t) (rules-from-at t) rules-from.Post rules-from-Inv-loop rules-from-μ-loop
-rules-from-returns-3 t c = (λ g old b n s h pl late some. let l = c .before .before .before .before .before .before .before .before .before .before .if1 .left in writes-first g old b n _ _ _ _ _ _ s h _ _ _ (c .before .before .before .before .before .before .before .before .before .before .before .before .next-rule .ensures) l (λ z. c .before .before .before .before .before .before .before .before .if2 .left (count-is g old b n _ _ _ _ _ _ s h _ l ∙ z)) (scan-to g old b n _ _ _ _ _ _ (begins-nothing g old _ _ _ _ (c .before .before .before .before .before .before .before .before .before .before .before .before .before .before .before .before .before .before .args .union) _ _ (to-is g old b n _ _ _ _ _ _ s h _ (c .before .before .before .before .before .before .before .before .before .before .if1 .left)) (above-is g old b n _ _ _ _ _ _ s h _ (c .before .before .before .before .before .before .before .before .before .before .if1 .left))) s _ _ _ _ (c .before .loop .inv .2 g old b n s h pl late) _ (c .before .before .before .before .before .end-at .ensures .1 _ (above-placed g old b n _ _ _ _ _ _ s h _ l _ pl)) (c .loop-test .left)), (c .before .loop .inv .0, c .before .loop .inv .1))
+rules-from-returns-3 t c = (λ g old b n s h pl ag late some past. let l = c .before .before .before .before .before .before .before .before .before .before .if1 .left in writes-first g old b n _ _ _ _ _ _ s h _ _ _ (c .before .before .before .before .before .before .before .before .before .before .before .before .next-rule .ensures) l (λ z. c .before .before .before .before .before .before .before .before .if2 .left (count-is g old b n _ _ _ _ _ _ s h _ l ∙ z)) (scan-to g old b n _ _ _ _ _ _ (begins-nothing g old _ _ _ _ (c .before .before .before .before .before .before .before .before .before .before .before .before .before .before .before .before .before .before .before .args .union) _ _ (to-is g old b n _ _ _ _ _ _ s h _ (c .before .before .before .before .before .before .before .before .before .before .if1 .left)) (above-is g old b n _ _ _ _ _ _ s h _ (c .before .before .before .before .before .before .before .before .before .before .if1 .left))) s _ _ _ _ (c .before .loop .inv .2 g old b n s h pl ag late past) _ (c .before .before .before .before .before .end-at .ensures .1 _ (above-placed g old b n _ _ _ _ _ _ s h _ l _ pl)) (c .loop-test .left)), (c .before .loop .inv .0, c .before .loop .inv .1))
 
 runs-with-at-requires : (t : ℕ) → runs-with-lts.Need-at-requires (runs-with-claims t) (runs-with-at t) runs-with.Post
 runs-with-at-requires t c κs = search needs
@@ -468,7 +550,7 @@ runs-with-shared-slice-read-if1 : (t : ℕ) → runs-with-lts.Need-shared-slice-
 runs-with-shared-slice-read-if1 t c = omega arith
 
 runs-with-returns : (t : ℕ) → runs-with-lts.Need-returns (runs-with-claims t) (runs-with-at t) runs-with.Post
-runs-with-returns t c = (λ g old b n s h pl whole. begins-none g old b n _ _ _ _ _ _ s h _ _ _ (other-state g old b n _ _ _ _ _ _ s h _ (c .before .before .before .before .before .before .before .before .before .pre .1 .2) _ (c .before .before .before .at .ensures) _ _ (λ e. c .if1 .taken (c .before .before .state .ensures ∙ e ∙ sym (to-is g old b n _ _ _ _ _ _ s h _ (c .before .before .before .before .before .before .before .before .before .pre .1 .1))))), (refl, refl))
+runs-with-returns t c = (λ g old b n s h pl ag whole past. begins-none g old b n _ _ _ _ _ _ s h _ _ _ (other-state g old b n _ _ _ _ _ _ s h _ (c .before .before .before .before .before .before .before .before .before .before .pre .1 .2) _ (c .before .before .before .at .ensures) _ _ (λ e. c .if1 .taken (c .before .before .state .ensures ∙ e ∙ sym (to-is g old b n _ _ _ _ _ _ s h _ (c .before .before .before .before .before .before .before .before .before .before .pre .1 .1))))), (refl, refl))
 
 runs-with-letter-requires : (t : ℕ) → runs-with-lts.Need-letter-requires (runs-with-claims t) (runs-with-at t) runs-with.Post
 runs-with-letter-requires t c κs = search needs
@@ -480,7 +562,10 @@ runs-with-shared-slice-read-if2 : (t : ℕ) → runs-with-lts.Need-shared-slice-
 runs-with-shared-slice-read-if2 t c = omega arith
 
 runs-with-returns-2 : (t : ℕ) → runs-with-lts.Need-returns-2 (runs-with-claims t) (runs-with-at t) runs-with.Post
-runs-with-returns-2 t c = (λ g old b n s h pl whole. begins-none g old b n _ _ _ _ _ _ s h _ _ _ (other-letter g old b n _ _ _ _ _ _ s h _ (c .before .before .before .before .before .before .before .before .before .before .before .before .pre .1 .2) _ (c .before .before .before .before .before .before .at .ensures) _ _ (λ e. c .if2 .taken (c .before .before .letter .ensures ∙ e ∙ sym (above-is g old b n _ _ _ _ _ _ s h _ (c .before .before .before .before .before .before .before .before .before .before .before .before .pre .1 .1))))), (refl, refl))
+runs-with-returns-2 t c = (λ g old b n s h pl ag whole past. begins-none g old b n _ _ _ _ _ _ s h _ _ _ (other-letter g old b n _ _ _ _ _ _ s h _ (c .before .before .before .before .before .before .before .before .before .before .before .before .before .pre .1 .2) _ (c .before .before .before .before .before .before .at .ensures) _ _ (λ e. c .if2 .taken (c .before .before .letter .ensures ∙ e ∙ sym (above-is g old b n _ _ _ _ _ _ s h _ (c .before .before .before .before .before .before .before .before .before .before .before .before .before .pre .1 .1))))), (refl, refl))
+
+runs-with-still-late-requires : (t : ℕ) → runs-with-lts.Need-still-late-requires (runs-with-claims t) (runs-with-at t) runs-with.Post
+runs-with-still-late-requires t c κs = search needs
 
 runs-with-add-if3 : (t : ℕ) → runs-with-lts.Need-add-if3 (runs-with-claims t) (runs-with-at t) runs-with.Post
 runs-with-add-if3 t c = omega arith
@@ -489,7 +574,7 @@ runs-with-shared-slice-read-if3 : (t : ℕ) → runs-with-lts.Need-shared-slice-
 runs-with-shared-slice-read-if3 t c = omega arith
 
 runs-with-rules-after-requires : (t : ℕ) → runs-with-lts.Need-rules-after-requires (runs-with-claims t) (runs-with-at t) runs-with.Post
-runs-with-rules-after-requires t c κs = (omega (arith, c .before .before .before .before .before .before .before .before .before .before .before .before .before .before .before .before .before .pre .0, c .before .before .before .before .before .before .before .before .before .before .before .before .before .before .before .before .before .pre .1 .1), (c .before .before .before .before .before .before .before .before .before .before .before .before .before .before .before .before .before .pre .1 .0, c .before .before .before .before .before .before .before .before .before .before .before .before .before .before .before .before .before .pre .1 .1))
+runs-with-rules-after-requires t c κs = (omega (arith, c .before .before .before .before .before .before .before .before .before .before .before .before .before .before .before .before .before .before .before .pre .0, c .before .before .before .before .before .before .before .before .before .before .before .before .before .before .before .before .before .before .before .pre .1 .1), (c .before .before .before .before .before .before .before .before .before .before .before .before .before .before .before .before .before .before .before .pre .1 .0, c .before .before .before .before .before .before .before .before .before .before .before .before .before .before .before .before .before .before .before .pre .1 .1))
 
 runs-with-same-length : (t : ℕ) → runs-with-lts.Need-same-length (runs-with-claims t) (runs-with-at t) runs-with.Post
 runs-with-same-length t c = search needs
@@ -498,13 +583,28 @@ runs-with-same-length-2 : (t : ℕ) → runs-with-lts.Need-same-length-2 (runs-w
 runs-with-same-length-2 t c = search needs
 
 runs-with-returns-3 : (t : ℕ) → runs-with-lts.Need-returns-3 (runs-with-claims t) (runs-with-at t) runs-with.Post
-runs-with-returns-3 t c = (λ g old b n s h pl whole. begins-one g old b n _ _ _ _ _ _ s h _ _ _ _ (set-of g old b n _ _ _ _ _ _ s h _ (c .before .before .before .before .before .before .before .before .before .before .before .before .before .before .before .before .before .before .before .before .before .before .pre .1 .2) _ (c .before .before .before .before .before .before .before .before .before .before .before .before .before .before .before .before .at .ensures)) (same-head g old b n _ _ _ _ _ _ s h _ (c .before .before .before .before .before .before .before .before .before .before .before .before .before .before .before .before .before .before .before .before .before .before .pre .1 .2) _ (c .before .before .before .before .before .before .before .before .before .before .before .before .before .before .before .before .at .ensures) _ _ (sym (c .before .before .before .before .before .before .before .before .before .before .before .before .before .before .before .state .ensures) ∙ c .before .before .before .before .before .before .before .before .before .before .before .before .before .if1 .left ∙ to-is g old b n _ _ _ _ _ _ s h _ (c .before .before .before .before .before .before .before .before .before .before .before .before .before .before .before .before .before .before .before .before .before .before .pre .1 .1)) (sym (c .before .before .before .before .before .before .before .before .before .before .before .before .letter .ensures) ∙ c .before .before .before .before .before .before .before .before .before .before .if2 .left ∙ above-is g old b n _ _ _ _ _ _ s h _ (c .before .before .before .before .before .before .before .before .before .before .before .before .before .before .before .before .before .before .before .before .before .before .pre .1 .1))) (sym (count-is g old b n _ _ _ _ _ _ s h _ (c .before .before .before .before .before .before .before .before .before .before .before .before .before .before .before .before .before .before .before .before .before .before .pre .1 .1)) ∙ c .before .before .before .before .before .before .before .before .if3 .taken) (c .before .before .before .before .rules-after .ensures .0 g old b n s h pl whole (union-adds g old b n _ _ _ _ _ _ s h _ (c .before .before .before .before .before .before .before .before .before .before .before .before .before .before .before .before .before .before .before .before .before .before .pre .1 .2) _ (c .before .before .before .before .before .before .before .before .before .before .before .before .before .before .before .before .at .ensures) (c .before .before .before .before .before .before .before .before .before .before .before .before .before .before .before .before .before .before .before .before .before .before .args .union))), c .before .before .before .before .rules-after .ensures .1)
+runs-with-returns-3 t c = (λ g old b n s h pl ag whole past. begins-one g old b n _ _ _ _ _ _ s h _ _ _ _ (set-of g old b n _ _ _ _ _ _ s h _ (c .before .before .before .before .before .before .before .before .before .before .before .before .before .before .before .before .before .before .before .before .before .before .before .before .pre .1 .2) _ (c .before .before .before .before .before .before .before .before .before .before .before .before .before .before .before .before .before .at .ensures)) (same-head g old b n _ _ _ _ _ _ s h _ (c .before .before .before .before .before .before .before .before .before .before .before .before .before .before .before .before .before .before .before .before .before .before .before .before .pre .1 .2) _ (c .before .before .before .before .before .before .before .before .before .before .before .before .before .before .before .before .before .at .ensures) _ _ (sym (c .before .before .before .before .before .before .before .before .before .before .before .before .before .before .before .before .state .ensures) ∙ c .before .before .before .before .before .before .before .before .before .before .before .before .before .before .if1 .left ∙ to-is g old b n _ _ _ _ _ _ s h _ (c .before .before .before .before .before .before .before .before .before .before .before .before .before .before .before .before .before .before .before .before .before .before .before .before .pre .1 .1)) (sym (c .before .before .before .before .before .before .before .before .before .before .before .before .before .letter .ensures) ∙ c .before .before .before .before .before .before .before .before .before .before .before .if2 .left ∙ above-is g old b n _ _ _ _ _ _ s h _ (c .before .before .before .before .before .before .before .before .before .before .before .before .before .before .before .before .before .before .before .before .before .before .before .before .pre .1 .1))) (sym (count-is g old b n _ _ _ _ _ _ s h _ (c .before .before .before .before .before .before .before .before .before .before .before .before .before .before .before .before .before .before .before .before .before .before .before .before .pre .1 .1)) ∙ c .before .before .before .before .before .before .before .before .if3 .taken) (c .before .before .before .before .rules-after .ensures .0 g old b n s h pl ag whole (union-adds g old b n _ _ _ _ _ _ s h _ (c .before .before .before .before .before .before .before .before .before .before .before .before .before .before .before .before .before .before .before .before .before .before .before .before .pre .1 .2) _ (c .before .before .before .before .before .before .before .before .before .before .before .before .before .before .before .before .before .at .ensures) (c .before .before .before .before .before .before .before .before .before .before .before .before .before .before .before .before .before .before .before .before .before .before .before .before .args .union)) (past-one g old b n _ _ _ _ _ _ s h _ _ (c .before .before .before .before .before .before .before .before .before .before .before .before .before .before .before .before .before .before .before .before .before .before .before .before .args .union) _ past (c .before .before .before .before .before .before .before .before .before .before .before .before .before .before .before .before .before .before .before .before .before .before .before .before .pre .1 .2) _ (c .before .before .before .before .before .before .before .before .before .before .before .before .before .before .before .before .before .at .ensures) (c .before .before .before .before .before .before .before .before .before .before .still-late .result) (c .before .before .before .before .before .before .before .before .before .before .still-late .ensures) (set-of g old b n _ _ _ _ _ _ s h _ (c .before .before .before .before .before .before .before .before .before .before .before .before .before .before .before .before .before .before .before .before .before .before .before .before .pre .1 .2) _ (c .before .before .before .before .before .before .before .before .before .before .before .before .before .before .before .before .before .at .ensures)) (same-head g old b n _ _ _ _ _ _ s h _ (c .before .before .before .before .before .before .before .before .before .before .before .before .before .before .before .before .before .before .before .before .before .before .before .before .pre .1 .2) _ (c .before .before .before .before .before .before .before .before .before .before .before .before .before .before .before .before .before .at .ensures) _ _ (sym (c .before .before .before .before .before .before .before .before .before .before .before .before .before .before .before .before .state .ensures) ∙ c .before .before .before .before .before .before .before .before .before .before .before .before .before .before .if1 .left ∙ to-is g old b n _ _ _ _ _ _ s h _ (c .before .before .before .before .before .before .before .before .before .before .before .before .before .before .before .before .before .before .before .before .before .before .before .before .pre .1 .1)) (sym (c .before .before .before .before .before .before .before .before .before .before .before .before .before .letter .ensures) ∙ c .before .before .before .before .before .before .before .before .before .before .before .if2 .left ∙ above-is g old b n _ _ _ _ _ _ s h _ (c .before .before .before .before .before .before .before .before .before .before .before .before .before .before .before .before .before .before .before .before .before .before .before .before .pre .1 .1))) (sym (count-is g old b n _ _ _ _ _ _ s h _ (c .before .before .before .before .before .before .before .before .before .before .before .before .before .before .before .before .before .before .before .before .before .before .before .before .pre .1 .1)) ∙ c .before .before .before .before .before .before .before .before .if3 .taken))), c .before .before .before .before .rules-after .ensures .1)
 
 runs-with-returns-4 : (t : ℕ) → runs-with-lts.Need-returns-4 (runs-with-claims t) (runs-with-at t) runs-with.Post
-runs-with-returns-4 t c = (λ g old b n s h pl whole. absurd (omega (arith, c .if4 .taken, set-adds g old b n _ _ _ _ _ _ s h _ (c .before .before .before .before .before .before .before .before .before .before .before .before .before .before .before .before .pre .1 .2) _ (c .before .before .before .before .before .before .before .before .before .before .at .ensures) 0)), (refl, refl))
+runs-with-returns-4 t c = (λ g old b n s h pl ag whole past. absurd (omega (arith, c .if4 .taken, set-adds g old b n _ _ _ _ _ _ s h _ (c .before .before .before .before .before .before .before .before .before .before .before .before .before .before .before .before .before .before .pre .1 .2) _ (c .before .before .before .before .before .before .before .before .before .before .before .at .ensures) 0)), (refl, refl))
+
+runs-with-add-fresh-on : (t : ℕ) → runs-with-lts.Need-add-fresh-on (runs-with-claims t) (runs-with-at t) runs-with.Post
+runs-with-add-fresh-on t c = omega arith
+
+runs-with-shared-slice-read-fresh-on : (t : ℕ) → runs-with-lts.Need-shared-slice-read-fresh-on (runs-with-claims t) (runs-with-at t) runs-with.Post
+runs-with-shared-slice-read-fresh-on t c = omega arith
+
+runs-with-fresh-on-requires : (t : ℕ) → runs-with-lts.Need-fresh-on-requires (runs-with-claims t) (runs-with-at t) runs-with.Post
+runs-with-fresh-on-requires t c κs = search needs
+
+runs-with-older-below-requires : (t : ℕ) → runs-with-lts.Need-older-below-requires (runs-with-claims t) (runs-with-at t) runs-with.Post
+runs-with-older-below-requires t c κs = omega (arith, c .before .before .before .before .before .before .before .before .before .before .before .before .before .before .before .before .before .before .before .before .before .pre .1 .0 .few, c .before .before .before .before .before .before .before .before .before .before .before .before .before .before .before .before .before .before .before .before .before .pre .1 .1)
+
+runs-with-returns-5 : (t : ℕ) → runs-with-lts.Need-returns-5 (runs-with-claims t) (runs-with-at t) runs-with.Post
+runs-with-returns-5 t c = (λ g old b n s h pl ag whole past. let known = c .before .older-below .ensures (c .if5 .taken) in begins-two g old b n _ _ _ _ _ _ s h _ _ _ _ (set-of g old b n _ _ _ _ _ _ s h _ (c .before .before .before .before .before .before .before .before .before .before .before .before .before .before .before .before .before .before .before .before .before .before .before .pre .1 .2) _ (c .before .before .before .before .before .before .before .before .before .before .before .before .before .before .before .before .at .ensures)) (same-head g old b n _ _ _ _ _ _ s h _ (c .before .before .before .before .before .before .before .before .before .before .before .before .before .before .before .before .before .before .before .before .before .before .before .pre .1 .2) _ (c .before .before .before .before .before .before .before .before .before .before .before .before .before .before .before .before .at .ensures) _ _ (sym (c .before .before .before .before .before .before .before .before .before .before .before .before .before .before .before .state .ensures) ∙ c .before .before .before .before .before .before .before .before .before .before .before .before .before .if1 .left ∙ to-is g old b n _ _ _ _ _ _ s h _ (c .before .before .before .before .before .before .before .before .before .before .before .before .before .before .before .before .before .before .before .before .before .before .before .pre .1 .1)) (sym (c .before .before .before .before .before .before .before .before .before .before .before .before .letter .ensures) ∙ c .before .before .before .before .before .before .before .before .before .before .if2 .left ∙ above-is g old b n _ _ _ _ _ _ s h _ (c .before .before .before .before .before .before .before .before .before .before .before .before .before .before .before .before .before .before .before .before .before .before .before .pre .1 .1))) (λ e. c .before .before .before .before .before .before .before .if3 .left (count-is g old b n _ _ _ _ _ _ s h _ (c .before .before .before .before .before .before .before .before .before .before .before .before .before .before .before .before .before .before .before .before .before .before .before .pre .1 .1) ∙ e)) (set-older g old b n _ _ _ _ _ _ s h (c .before .before .before .before .before .before .before .before .before .before .before .before .before .before .before .before .before .before .before .before .before .before .before .args .fresh .now) ag _ _ _ _ (past-two g old b n _ _ _ _ _ _ s h _ _ (c .before .before .before .before .before .before .before .before .before .before .before .before .before .before .before .before .before .before .before .before .before .before .before .args .union) _ past (c .before .before .before .before .before .before .before .before .before .before .before .before .before .before .before .before .before .before .before .before .before .before .before .pre .1 .2) _ (c .before .before .before .before .before .before .before .before .before .before .before .before .before .before .before .before .at .ensures) (c .before .before .before .before .before .before .before .before .before .still-late .result) (c .before .before .before .before .before .before .before .before .before .still-late .ensures) (set-of g old b n _ _ _ _ _ _ s h _ (c .before .before .before .before .before .before .before .before .before .before .before .before .before .before .before .before .before .before .before .before .before .before .before .pre .1 .2) _ (c .before .before .before .before .before .before .before .before .before .before .before .before .before .before .before .before .at .ensures)) (same-head g old b n _ _ _ _ _ _ s h _ (c .before .before .before .before .before .before .before .before .before .before .before .before .before .before .before .before .before .before .before .before .before .before .before .pre .1 .2) _ (c .before .before .before .before .before .before .before .before .before .before .before .before .before .before .before .before .at .ensures) _ _ (sym (c .before .before .before .before .before .before .before .before .before .before .before .before .before .before .before .state .ensures) ∙ c .before .before .before .before .before .before .before .before .before .before .before .before .before .if1 .left ∙ to-is g old b n _ _ _ _ _ _ s h _ (c .before .before .before .before .before .before .before .before .before .before .before .before .before .before .before .before .before .before .before .before .before .before .before .pre .1 .1)) (sym (c .before .before .before .before .before .before .before .before .before .before .before .before .letter .ensures) ∙ c .before .before .before .before .before .before .before .before .before .before .if2 .left ∙ above-is g old b n _ _ _ _ _ _ s h _ (c .before .before .before .before .before .before .before .before .before .before .before .before .before .before .before .before .before .before .before .before .before .before .before .pre .1 .1))) (λ e. c .before .before .before .before .before .before .before .if3 .left (count-is g old b n _ _ _ _ _ _ s h _ (c .before .before .before .before .before .before .before .before .before .before .before .before .before .before .before .before .before .before .before .before .before .before .before .pre .1 .1) ∙ e))) (omega (arith, known .0, c .if5 .taken)) (known .1) (c .before .before .before .fresh-on .result) (c .before .before .before .fresh-on .ensures ∙ ap (λ (a : ℕ). getD (c .before .before .before .before .before .before .before .before .before .before .before .before .before .before .before .before .before .before .before .before .before .before .before .args .fresh .now) a 0) (below-is g old b n _ _ _ _ _ _ s h _ (c .before .before .before .before .before .before .before .before .before .before .before .before .before .before .before .before .before .before .before .before .before .before .before .pre .1 .1))) (known .2)), (refl, refl))
 
 runs-with-pass-states-requires : (t : ℕ) → runs-with-lts.Need-pass-states-requires (runs-with-claims t) (runs-with-at t) runs-with.Post
-runs-with-pass-states-requires t c κs = (omega (arith, c .before .before .before .before .before .before .before .before .before .before .before .before .before .before .before .before .before .before .pre .0, c .before .before .before .before .before .before .before .before .before .before .before .before .before .before .before .before .before .before .pre .1 .1), (c .before .before .before .before .before .before .before .before .before .before .before .before .before .before .before .before .before .before .pre .1 .0, c .before .before .before .before .before .before .before .before .before .before .before .before .before .before .before .before .before .before .pre .1 .1, omega (arith, c .before .before .if4 .left)))
+runs-with-pass-states-requires t c κs = (omega (arith, c .before .before .before .before .before .before .before .before .before .before .before .before .before .before .before .before .before .before .before .before .before .before .before .before .before .pre .0, c .before .before .before .before .before .before .before .before .before .before .before .before .before .before .before .before .before .before .before .before .before .before .before .before .before .pre .1 .1), (c .before .before .before .before .before .before .before .before .before .before .before .before .before .before .before .before .before .before .before .before .before .before .before .before .before .pre .1 .0, c .before .before .before .before .before .before .before .before .before .before .before .before .before .before .before .before .before .before .before .before .before .before .before .before .before .pre .1 .1, omega (arith, c .before .before .before .before .before .before .before .if4 .left)))
 
 runs-with-same-length-3 : (t : ℕ) → runs-with-lts.Need-same-length-3 (runs-with-claims t) (runs-with-at t) runs-with.Post
 runs-with-same-length-3 t c = search needs
@@ -512,8 +612,8 @@ runs-with-same-length-3 t c = search needs
 runs-with-same-length-4 : (t : ℕ) → runs-with-lts.Need-same-length-4 (runs-with-claims t) (runs-with-at t) runs-with.Post
 runs-with-same-length-4 t c = search needs
 
-runs-with-returns-5 : (t : ℕ) → runs-with-lts.Need-returns-5 (runs-with-claims t) (runs-with-at t) runs-with.Post
-runs-with-returns-5 t c = (λ g old b n s h pl whole. begins-two g old b n _ _ _ _ _ _ s h _ _ _ _ (set-of g old b n _ _ _ _ _ _ s h _ (c .before .before .before .before .before .before .before .before .before .before .before .before .before .before .before .before .before .before .before .before .before .before .before .pre .1 .2) _ (c .before .before .before .before .before .before .before .before .before .before .before .before .before .before .before .before .before .at .ensures)) (same-head g old b n _ _ _ _ _ _ s h _ (c .before .before .before .before .before .before .before .before .before .before .before .before .before .before .before .before .before .before .before .before .before .before .before .pre .1 .2) _ (c .before .before .before .before .before .before .before .before .before .before .before .before .before .before .before .before .before .at .ensures) _ _ (sym (c .before .before .before .before .before .before .before .before .before .before .before .before .before .before .before .before .state .ensures) ∙ c .before .before .before .before .before .before .before .before .before .before .before .before .before .before .if1 .left ∙ to-is g old b n _ _ _ _ _ _ s h _ (c .before .before .before .before .before .before .before .before .before .before .before .before .before .before .before .before .before .before .before .before .before .before .before .pre .1 .1)) (sym (c .before .before .before .before .before .before .before .before .before .before .before .before .before .letter .ensures) ∙ c .before .before .before .before .before .before .before .before .before .before .before .if2 .left ∙ above-is g old b n _ _ _ _ _ _ s h _ (c .before .before .before .before .before .before .before .before .before .before .before .before .before .before .before .before .before .before .before .before .before .before .before .pre .1 .1))) (λ e. c .before .before .before .before .before .before .before .before .before .if3 .left (count-is g old b n _ _ _ _ _ _ s h _ (c .before .before .before .before .before .before .before .before .before .before .before .before .before .before .before .before .before .before .before .before .before .before .before .pre .1 .1) ∙ e)) (c .before .before .before .before .pass-states .ensures .0 g old b n s h pl whole (set-below g old b n _ _ _ _ _ _ s h _ (c .before .before .before .before .before .before .before .before .before .before .before .before .before .before .before .before .before .before .before .before .before .before .before .pre .1 .2) _ (c .before .before .before .before .before .before .before .before .before .before .before .before .before .before .before .before .before .at .ensures))), c .before .before .before .before .pass-states .ensures .1)
+runs-with-returns-6 : (t : ℕ) → runs-with-lts.Need-returns-6 (runs-with-claims t) (runs-with-at t) runs-with.Post
+runs-with-returns-6 t c = (λ g old b n s h pl ag whole past. begins-two g old b n _ _ _ _ _ _ s h _ _ _ _ (set-of g old b n _ _ _ _ _ _ s h _ (c .before .before .before .before .before .before .before .before .before .before .before .before .before .before .before .before .before .before .before .before .before .before .before .before .before .before .before .before .before .before .pre .1 .2) _ (c .before .before .before .before .before .before .before .before .before .before .before .before .before .before .before .before .before .before .before .before .before .before .before .at .ensures)) (same-head g old b n _ _ _ _ _ _ s h _ (c .before .before .before .before .before .before .before .before .before .before .before .before .before .before .before .before .before .before .before .before .before .before .before .before .before .before .before .before .before .before .pre .1 .2) _ (c .before .before .before .before .before .before .before .before .before .before .before .before .before .before .before .before .before .before .before .before .before .before .before .at .ensures) _ _ (sym (c .before .before .before .before .before .before .before .before .before .before .before .before .before .before .before .before .before .before .before .before .before .before .state .ensures) ∙ c .before .before .before .before .before .before .before .before .before .before .before .before .before .before .before .before .before .before .before .before .if1 .left ∙ to-is g old b n _ _ _ _ _ _ s h _ (c .before .before .before .before .before .before .before .before .before .before .before .before .before .before .before .before .before .before .before .before .before .before .before .before .before .before .before .before .before .before .pre .1 .1)) (sym (c .before .before .before .before .before .before .before .before .before .before .before .before .before .before .before .before .before .before .before .letter .ensures) ∙ c .before .before .before .before .before .before .before .before .before .before .before .before .before .before .before .before .before .if2 .left ∙ above-is g old b n _ _ _ _ _ _ s h _ (c .before .before .before .before .before .before .before .before .before .before .before .before .before .before .before .before .before .before .before .before .before .before .before .before .before .before .before .before .before .before .pre .1 .1))) (λ e. c .before .before .before .before .before .before .before .before .before .before .before .before .before .before .if3 .left (count-is g old b n _ _ _ _ _ _ s h _ (c .before .before .before .before .before .before .before .before .before .before .before .before .before .before .before .before .before .before .before .before .before .before .before .before .before .before .before .before .before .before .pre .1 .1) ∙ e)) (c .before .before .before .before .pass-states .ensures .0 g old b n s h pl ag whole (set-below g old b n _ _ _ _ _ _ s h _ (c .before .before .before .before .before .before .before .before .before .before .before .before .before .before .before .before .before .before .before .before .before .before .before .before .before .before .before .before .before .before .pre .1 .2) _ (c .before .before .before .before .before .before .before .before .before .before .before .before .before .before .before .before .before .before .before .before .before .before .before .at .ensures)) (past-two g old b n _ _ _ _ _ _ s h _ _ (c .before .before .before .before .before .before .before .before .before .before .before .before .before .before .before .before .before .before .before .before .before .before .before .before .before .before .before .before .before .before .args .union) _ past (c .before .before .before .before .before .before .before .before .before .before .before .before .before .before .before .before .before .before .before .before .before .before .before .before .before .before .before .before .before .before .pre .1 .2) _ (c .before .before .before .before .before .before .before .before .before .before .before .before .before .before .before .before .before .before .before .before .before .before .before .at .ensures) (c .before .before .before .before .before .before .before .before .before .before .before .before .before .before .before .before .still-late .result) (c .before .before .before .before .before .before .before .before .before .before .before .before .before .before .before .before .still-late .ensures) (set-of g old b n _ _ _ _ _ _ s h _ (c .before .before .before .before .before .before .before .before .before .before .before .before .before .before .before .before .before .before .before .before .before .before .before .before .before .before .before .before .before .before .pre .1 .2) _ (c .before .before .before .before .before .before .before .before .before .before .before .before .before .before .before .before .before .before .before .before .before .before .before .at .ensures)) (same-head g old b n _ _ _ _ _ _ s h _ (c .before .before .before .before .before .before .before .before .before .before .before .before .before .before .before .before .before .before .before .before .before .before .before .before .before .before .before .before .before .before .pre .1 .2) _ (c .before .before .before .before .before .before .before .before .before .before .before .before .before .before .before .before .before .before .before .before .before .before .before .at .ensures) _ _ (sym (c .before .before .before .before .before .before .before .before .before .before .before .before .before .before .before .before .before .before .before .before .before .before .state .ensures) ∙ c .before .before .before .before .before .before .before .before .before .before .before .before .before .before .before .before .before .before .before .before .if1 .left ∙ to-is g old b n _ _ _ _ _ _ s h _ (c .before .before .before .before .before .before .before .before .before .before .before .before .before .before .before .before .before .before .before .before .before .before .before .before .before .before .before .before .before .before .pre .1 .1)) (sym (c .before .before .before .before .before .before .before .before .before .before .before .before .before .before .before .before .before .before .before .letter .ensures) ∙ c .before .before .before .before .before .before .before .before .before .before .before .before .before .before .before .before .before .if2 .left ∙ above-is g old b n _ _ _ _ _ _ s h _ (c .before .before .before .before .before .before .before .before .before .before .before .before .before .before .before .before .before .before .before .before .before .before .before .before .before .before .before .before .before .before .pre .1 .1))) (λ e. c .before .before .before .before .before .before .before .before .before .before .before .before .before .before .if3 .left (count-is g old b n _ _ _ _ _ _ s h _ (c .before .before .before .before .before .before .before .before .before .before .before .before .before .before .before .before .before .before .before .before .before .before .before .before .before .before .before .before .before .before .pre .1 .1) ∙ e)))), c .before .before .before .before .pass-states .ensures .1)
 
 pub +pass-states+rules-after+rules-from+runs-with-spec : {M : Type 1} → statement M
 +pass-states+rules-after+rules-from+runs-with-spec =
@@ -526,6 +626,7 @@ pub +pass-states+rules-after+rules-from+runs-with-spec : {M : Type 1} → statem
     (pass-states-mul-below t)
     (pass-states-add-below t)
     (pass-states-shared-slice-read-below t)
+    (pass-states-fresh-on-requires t)
     (pass-states-highest-requires t)
     (pass-states-start-at-requires t)
     (pass-states-loop-holds t)
@@ -534,6 +635,7 @@ pub +pass-states+rules-after+rules-from+runs-with-spec : {M : Type 1} → statem
     (pass-states-shl-rest t)
     (pass-states-rem-rest t)
     (pass-states-end-at-requires t)
+    (pass-states-older-below-requires t)
     (pass-states-next-open-requires t)
     (pass-states-same-length t)
     (pass-states-same-length-2 t)
@@ -546,12 +648,18 @@ pub +pass-states+rules-after+rules-from+runs-with-spec : {M : Type 1} → statem
     (pass-states-array-read-union t)
     (pass-states-mul-i t)
     (pass-states-array-read-i t)
+    (pass-states-mul-limit t)
+    (pass-states-array-read-limit t)
     (pass-states-loop-less t)
     (pass-states-loop-again t)
     (pass-states-mul-passed t)
     (pass-states-add-passed t)
     (pass-states-mul-passed-2 t)
     (pass-states-shared-slice-read-passed t)
+    (pass-states-mul-still-late t)
+    (pass-states-mul-still-late-2 t)
+    (pass-states-shared-slice-read-still-late t)
+    (pass-states-still-late-requires t)
     (pass-states-rules-after-requires t)
     (pass-states-add-i t)
     (pass-states-loop-less-2 t)
@@ -563,6 +671,8 @@ pub +pass-states+rules-after+rules-from+runs-with-spec : {M : Type 1} → statem
     (pass-states-add-nexts t)
     (pass-states-mul-nexts t)
     (pass-states-array-write-nexts t)
+    (pass-states-mul-limits t)
+    (pass-states-array-write-limits t)
     (pass-states-add-depth t)
     (pass-states-highest-requires-3 t)
     (pass-states-start-at-requires-2 t)
@@ -571,16 +681,18 @@ pub +pass-states+rules-after+rules-from+runs-with-spec : {M : Type 1} → statem
     (λ t. rules-after-lts.spec (rules-after-claims t)
     (rules-after-at t)
     rules-after.Post
+    (rules-after-older-below-requires t)
+    (rules-after-returns t)
     (rules-after-tag-of-requires t)
     (rules-after-is-finished-requires t)
     (rules-after-same-length t)
-    (rules-after-returns t)
+    (rules-after-returns-2 t)
     (rules-after-add-rules-from t)
     (rules-after-rules-from-requires t)
     (rules-after-finish-requires t)
     (rules-after-same-length-2 t)
     (rules-after-same-length-3 t)
-    (rules-after-returns-2 t))
+    (rules-after-returns-3 t))
     (λ t. rules-from-lts.spec (rules-from-claims t)
     (rules-from-at t)
     rules-from.Post
@@ -631,6 +743,7 @@ pub +pass-states+rules-after+rules-from+runs-with-spec : {M : Type 1} → statem
     (runs-with-add-if2 t)
     (runs-with-shared-slice-read-if2 t)
     (runs-with-returns-2 t)
+    (runs-with-still-late-requires t)
     (runs-with-add-if3 t)
     (runs-with-shared-slice-read-if3 t)
     (runs-with-rules-after-requires t)
@@ -638,7 +751,12 @@ pub +pass-states+rules-after+rules-from+runs-with-spec : {M : Type 1} → statem
     (runs-with-same-length-2 t)
     (runs-with-returns-3 t)
     (runs-with-returns-4 t)
+    (runs-with-add-fresh-on t)
+    (runs-with-shared-slice-read-fresh-on t)
+    (runs-with-fresh-on-requires t)
+    (runs-with-older-below-requires t)
+    (runs-with-returns-5 t)
     (runs-with-pass-states-requires t)
     (runs-with-same-length-3 t)
     (runs-with-same-length-4 t)
-    (runs-with-returns-5 t)
+    (runs-with-returns-6 t)

@@ -1,7 +1,8 @@
--- Every entry passed over stands in the memo (`Skipped`). What falls is the number of entries left. Assumes what the contract
--- requires.
+-- Every entry passed over is older than a word says or stands in the memo (`Skipped`). What falls is the number of entries left.
+-- Assumes what the contract requires.
 use Prim.Native.Nat.{_-_}
 use native.Mathlib.Omega.{arith}
+use mathlib.Core.Logic.{inl, inr}
 use borrow.Author.Tests.{not-false}
 use borrow.Author.Needs.{needs}
 use Rattle.walk.specs.Walk.{Skipped}
@@ -10,31 +11,22 @@ use Rattle.walk.proofs.runs.next_open.Statement.{statement}
 use Rattle.walk.proofs.runs.next_open.Tie as tie
 
 abbrev Inv-loop : tie.InvT-loop
-Inv-loop work memo tag rest union from end i₀ i = Skipped work memo tag rest union from end i
+Inv-loop work memo tag rest union from end passing i₀ i = Skipped work memo tag rest union from end passing i
 
 abbrev μ-loop : tie.MeasureT-loop
-μ-loop work memo tag rest union from end i₀ i = end - i
+μ-loop work memo tag rest union from end passing i₀ i = end - i
 
 loop-holds : tie.Need-loop-holds Inv-loop μ-loop
-loop-holds c = begins _ _ _ _ _ _ _
+loop-holds c = begins _ _ _ _ _ _ _ _
 
-mul-passed : tie.Need-mul-passed Inv-loop μ-loop
-mul-passed c = omega arith
+mul-at : tie.Need-mul-at Inv-loop μ-loop
+mul-at c = omega arith
 
-add-passed : tie.Need-add-passed Inv-loop μ-loop
-add-passed c = omega arith
+mul-if1 : tie.Need-mul-if1 Inv-loop μ-loop
+mul-if1 c = omega arith
 
-mul-passed-2 : tie.Need-mul-passed-2 Inv-loop μ-loop
-mul-passed-2 c = omega arith
-
-shared-slice-read-passed : tie.Need-shared-slice-read-passed Inv-loop μ-loop
-shared-slice-read-passed c = omega arith
-
-is-finished-requires : tie.Need-is-finished-requires Inv-loop μ-loop
-is-finished-requires c κs = search needs
-
-returns : tie.Need-returns Inv-loop μ-loop
-returns c = c .before .before .before .before .loop .inv
+shared-slice-read-if1 : tie.Need-shared-slice-read-if1 Inv-loop μ-loop
+shared-slice-read-if1 c = omega arith
 
 add-i : tie.Need-add-i Inv-loop μ-loop
 add-i c = omega arith
@@ -43,7 +35,31 @@ loop-less : tie.Need-loop-less Inv-loop μ-loop
 loop-less c = omega arith
 
 loop-again : tie.Need-loop-again Inv-loop μ-loop
-loop-again c = skips _ _ _ _ _ _ _ _ (c .before .before .before .before .loop .inv) (c .before .before .before .loop-test .taken) (c .before .is-finished .ensures (not-false _ (c .if1 .left)))
+loop-again c = skips _ _ _ _ _ _ _ _ _ (c .before .before .before .loop .inv) (c .before .before .loop-test .taken) (inl (c .if1 .taken))
+
+add-is-finished : tie.Need-add-is-finished Inv-loop μ-loop
+add-is-finished c = omega arith
+
+mul-is-finished : tie.Need-mul-is-finished Inv-loop μ-loop
+mul-is-finished c = omega arith
+
+shared-slice-read-is-finished : tie.Need-shared-slice-read-is-finished Inv-loop μ-loop
+shared-slice-read-is-finished c = omega arith
+
+is-finished-requires : tie.Need-is-finished-requires Inv-loop μ-loop
+is-finished-requires c κs = search needs
+
+returns : tie.Need-returns Inv-loop μ-loop
+returns c = c .before .before .before .before .before .before .loop .inv
+
+add-i-2 : tie.Need-add-i-2 Inv-loop μ-loop
+add-i-2 c = omega arith
+
+loop-less-2 : tie.Need-loop-less-2 Inv-loop μ-loop
+loop-less-2 c = omega arith
+
+loop-again-2 : tie.Need-loop-again-2 Inv-loop μ-loop
+loop-again-2 c = skips _ _ _ _ _ _ _ _ _ (c .before .before .before .before .before .before .loop .inv) (c .before .before .before .before .before .loop-test .taken) (inr (c .before .is-finished .ensures (not-false _ (c .if2 .left))))
 
 returns-2 : tie.Need-returns-2 Inv-loop μ-loop
 returns-2 c = c .before .loop .inv
@@ -55,13 +71,18 @@ next-open-spec =
     Inv-loop
     μ-loop
     loop-holds
-    mul-passed
-    add-passed
-    mul-passed-2
-    shared-slice-read-passed
-    is-finished-requires
-    returns
+    mul-at
+    mul-if1
+    shared-slice-read-if1
     add-i
     loop-less
     loop-again
+    add-is-finished
+    mul-is-finished
+    shared-slice-read-is-finished
+    is-finished-requires
+    returns
+    add-i-2
+    loop-less-2
+    loop-again-2
     returns-2)

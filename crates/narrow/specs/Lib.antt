@@ -1,6 +1,0 @@
-pub mod Families
-pub mod Linking
-pub mod HeadSets
-pub mod WidthLaws
-pub mod Ends
-pub mod Writing

@@ -1,0 +1,252 @@
+// The rounds of a game whose sets have few states, over families of sets that are kept over all rounds.
+use crate::solving::Solution;
+use crate::solving::give_up;
+use family::RAISING;
+use family::fill_raising;
+use game::Game;
+use game::Sizes;
+use rounds::clear;
+use saturation::Counts;
+use saturation::link;
+use saturation::note_targets;
+use saturation::set_masks;
+use saturation::take_round;
+use saturation::write_entries;
+use table::EntryWords;
+ghost use mathlib.Core.Path.{_≡_};
+ghost use mathlib.Core.List.{List, []};
+ghost use Prim.Native.Nat.{ℕ, _+_, _*_, _-_, _/_, _<_, _≤_};
+ghost use lib.ListN.{length, getD, replicate};
+ghost use Rattle.game.specs.Game.{PushdownGame};
+ghost use Rattle.game.specs.GoodGame.{Good};
+ghost use Rattle.table.specs.Table.{Entry, tableWords};
+ghost use Rattle.rounds.specs.Rounds.{roundZero};
+ghost use Rattle.rounds.specs.Solving.{solvingGame};
+ghost use Rattle.saturation.specs.RuleLinks.{Linked, Climbs};
+ghost use Rattle.saturation.specs.Ground.{Areas};
+ghost use Rattle.saturation.specs.Resting.{Resting};
+ghost use Rattle.saturation.specs.Ranks.{Sized, Noted};
+ghost use Rattle.solver.specs.declared.solving.Solution.the-variants.{Solved as SolvedWith};
+ghost use Rattle.solver.specs.Leaving.{leaving, called};
+ghost use Rattle.solver.specs.Given.{Given, solvingRounds};
+ghost use Rattle.solver.specs.Rooms.{Numbers, Rooms, Blanks, Few};
+
+// How many heads of control states there may be.
+pub const ROWS: usize = 1536;
+
+// Round 0 and the others, in areas in which nothing is.
+pub fn rounds_in(
+    sizes: Sizes,
+    rules: &[u8],
+    targets: &[u32],
+    elements: usize,
+    states: &[u8],
+    numbers: &[usize],
+    heads: usize,
+    n: usize,
+    table: &mut [u32],
+    work: &mut [u32],
+    all: &mut [u64],
+    new: &mut [u64],
+    added: &mut [u64],
+    ends: &mut [u64],
+    grown: &mut [u64],
+    keys: &mut [u32],
+    rests: &mut [u32],
+    hints: &mut [u32],
+) -> Solution
+    requires { ⌜ ((g : PushdownGame) × Given g sizes (now rules) (now targets)) × (length (now table) ≡ length (now work)) × (length (now table) ≤ 6144)
+        × (heads ≡ sizes .states * sizes .letters) × Numbers elements (now states) (now numbers) (sizes .letters) heads
+        × Rooms heads n (now all) (now new) (now added) (now ends) (now grown) (now keys) (now rests) (now hints) ⌝ }
+    ensures { λ r. ⌜ ((g : PushdownGame) (m : ℕ) → Given g sizes (now (rules .entry)) (now (targets .entry)) → now (table .entry) ≡ replicate (m * 3) 0
+        → Few g elements n (now (states .entry)) (now (numbers .entry)) → Blanks (now (all .entry)) (now (new .entry)) (now (added .entry)) (now (ends .entry))
+        → called r (now (table .exit)) (now (work .exit)) ≡ leaving (solvingGame g m) (length (now (table .entry))) (length (now (work .entry)))) ⌝ }
+{
+    let mut raising = [0u64; RAISING];
+    fill_raising(&mut raising);
+    let mut firsts = [0usize; ROWS];
+    let mut nexts = [0usize; Game::MAX_RULES];
+    let letters = sizes.letters as usize;
+    link(
+        rules,
+        sizes.rulecount,
+        letters,
+        sizes.control as usize,
+        &mut firsts,
+        &mut nexts,
+    );
+    let mut fresh = [0usize; 64];
+    let mut alive = [0usize; 64];
+    let size = table.len() / EntryWords::STRIDE;
+    let first = note_targets(
+        targets,
+        sizes.targetcount,
+        numbers,
+        letters,
+        heads,
+        n,
+        all,
+        new,
+        work,
+        size,
+    );
+    if size < first {
+        return give_up(table, work, 11, 0);
+    }
+    set_masks(
+        elements,
+        states,
+        letters,
+        heads,
+        n,
+        all,
+        new,
+        &mut fresh,
+        &mut alive,
+    );
+    rounds_on(
+        sizes,
+        rules,
+        elements,
+        states,
+        numbers,
+        heads,
+        n,
+        table,
+        work,
+        all,
+        new,
+        keys,
+        rests,
+        hints,
+        &mut fresh,
+        &mut alive,
+        ends,
+        grown,
+        &firsts,
+        &nexts,
+        &raising,
+        added,
+        first,
+    )
+}
+
+// The rounds after round 0, taken in order until settled. The work area has the entries in the order in which they came.
+fn rounds_on(
+    sizes: Sizes,
+    rules: &[u8],
+    elements: usize,
+    states: &[u8],
+    numbers: &[usize],
+    heads: usize,
+    n: usize,
+    table: &mut [u32],
+    log: &mut [u32],
+    all: &mut [u64],
+    new: &mut [u64],
+    keys: &mut [u32],
+    rests: &mut [u32],
+    hints: &mut [u32],
+    fresh: &mut [usize],
+    alive: &mut [usize],
+    ends: &mut [u64],
+    grown: &mut [u64],
+    firsts: &[usize],
+    nexts: &[usize],
+    raising: &[u64],
+    added: &mut [u64],
+    first: usize,
+) -> Solution
+    requires { ⌜ Areas (sizes .letters) heads n (sizes .rulecount) (length (now table) / 3) (now rules) (now states) (now numbers) (now all) (now new) (now keys) (now rests) (now hints) (now fresh) (now alive) (now ends) (now grown) (now added) (now log) (now raising)
+        × (first ≤ length (now table) / 3) × (elements ≤ 10) × (sizes .control ≤ 24) × (sizes .control * sizes .letters ≤ heads)
+        × (sizes .control * sizes .letters ≤ length (now firsts)) × (256 ≤ length (now nexts)) × Climbs (now nexts) (sizes .rulecount) ⌝ }
+    ensures { λ r. ⌜ ((el : List ℕ) (g : PushdownGame) (m : ℕ) → sizes .control ≡ g .control → elements ≡ length el
+        → Linked (now (rules .entry)) (sizes .rulecount) (sizes .letters) (sizes .control) (now (firsts .entry)) (now (nexts .entry))
+        → now (table .entry) ≡ replicate (m * 3) 0
+        → Resting el g n heads [] (roundZero g) 0 (sizes .abelard) (sizes .letters) (sizes .rulecount) (now (rules .entry)) (now (states .entry)) (now (numbers .entry)) (now (raising .entry)) (now (all .entry)) (now (new .entry)) (now (keys .entry)) (now (rests .entry)) (now (fresh .entry)) (now (alive .entry)) (now (ends .entry)) (now (added .entry)) (now (log .entry)) 0 first
+        → called r (now (table .exit)) (now (log .exit)) ≡ leaving (solvingRounds g m) (length (now (table .entry))) (length (now (log .entry)))) ⌝ }
+{
+    let size = table.len() / EntryWords::STRIDE;
+    let mut counts = Counts {
+        entries: first,
+        lines: 0,
+    };
+    let mut i = 0u32;
+    loop {
+        let next = take_round(
+            sizes,
+            rules,
+            elements,
+            states,
+            numbers,
+            heads,
+            n,
+            all,
+            new,
+            keys,
+            rests,
+            hints,
+            fresh,
+            alive,
+            ends,
+            grown,
+            firsts,
+            nexts,
+            raising,
+            added,
+            log,
+            size,
+            i + 1,
+            counts,
+        );
+        if next.entries == counts.entries {
+            return settle(
+                table,
+                log,
+                next.entries,
+                i,
+                all,
+                new,
+                states,
+                sizes.letters as usize,
+                heads,
+                n,
+            );
+        }
+        if Game::MAX_ROUNDS <= i {
+            return give_up(table, log, 12, i as usize + 1);
+        }
+        if size < next.entries {
+            return give_up(table, log, 11, i as usize + 1);
+        }
+        counts = next;
+        i += 1;
+    }
+}
+
+// The entries written into the table in order. What `places` held is lost.
+fn settle(
+    table: &mut [u32],
+    log: &mut [u32],
+    entries: usize,
+    rounds: u32,
+    all: &[u64],
+    places: &mut [u64],
+    states: &[u8],
+    letters: usize,
+    heads: usize,
+    n: usize,
+) -> Solution
+    requires { ⌜ Sized letters heads n entries (now states) (now all) (now places) (now log) ⌝ }
+    ensures { λ r. ⌜ ((el : List ℕ) (g : PushdownGame) (es : List Entry) (m : ℕ)
+        → Noted el g n letters heads (now (states .entry)) (now (all .entry)) (now (log .entry)) entries es m
+        → now (table .entry) ≡ replicate (m * 3) 0
+        → called r (now (table .exit)) (now (log .exit)) ≡ called (SolvedWith entries rounds) (tableWords es (m - length es)) (replicate (length (now (log .entry))) 0)) ⌝ }
+    ensures { λ _. ⌜ length (now (table .exit)) ≡ length (now (table .entry)) ⌝ }
+    ensures { λ _. ⌜ length (now (log .exit)) ≡ length (now (log .entry)) ⌝ }
+    ensures { λ _. ⌜ length (now (places .exit)) ≡ length (now (places .entry)) ⌝ }
+{
+    write_entries(table, log, entries, all, places, states, letters, heads, n);
+    clear(log);
+    Solution::Solved { entries, rounds }
+}
