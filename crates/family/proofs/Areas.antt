@@ -1,7 +1,7 @@
 -- Areas of words: a set put in, and words that a loop writes one after another.
 use Prim.Native.Nat.{ℕ, _+_, _*_, _-_, _/_, _%_, _^_, _<_, _≤_}
 use native.Mathlib.Omega.{arith}
-use native.Mathlib.Nat.{mod-lt}
+use native.Mathlib.Nat.{add-zero, mod-lt}
 use mathlib.Core.Path.{_≡_, refl, sym, ap, ap₂, _∙_}
 use mathlib.Core.Logic.{⊎-elim}
 use mathlib.Core.Bool.{Bool, true, false, not, _&&_, _||_, or-false}
@@ -112,6 +112,12 @@ module _ (old : List ℕ) (to n : ℕ) (new : ℕ → ℕ) (words : List ℕ) (i
         ap (λ (v : ℕ). has v (x % 64))
         (⊎-elim (λ u. w .under (place + x / 64) u) (λ o. w .over (place + x / 64) (omega (arith, w .within, o))) away)
 
+-- a family of one word is written at once
+walk-one : (old : List ℕ) (to n : ℕ) (new : ℕ → ℕ) (v : ℕ) → n ≡ 1 → to + n ≤ length old → v ≡ new 0
+    → Walked old to n new (set old to v) 1
+walk-one old to n new v one room is =
+    rw (add-zero to) at (walk-on old to n new old 0 (walk-starts old to n new) room (omega arith) v is)
+
 -- the words of an emptied family, of one copied, of one joined with another, and of one without another's sets
 abbrev pub none : ℕ → ℕ
 none j = 0
@@ -203,8 +209,38 @@ taken-all n d to before all old new i w v end =
     gained false true = refl
     gained false false = refl
 
+-- the same of families of one word, which are written at once
+pub cleared-one : (old : List ℕ) (at n : ℕ) → n ≡ 1 → at + n ≤ length old → Cleared old at n (set old at 0)
+cleared-one old at n one room = cleared-all old at n (set old at 0) 1 (walk-one old at n none 0 one room refl) (omega arith)
+
+module _ (old : List ℕ) (to n : ℕ) (others : List ℕ) (at : ℕ) (one : n ≡ 1) (room : to + n ≤ length old) where
+  pub copied-one : Copied old to n others at (set old to (getD others at 0))
+  copied-one =
+      copied-all old to n others at _ 1
+      (walk-one old to n (copied others at) _ one room (rw (add-zero at) refl))
+      (omega arith)
+
+  pub joined-one : Joined old to n others at (set old to (bitOr (getD old to 0) (getD others at 0)))
+  joined-one =
+      joined-all old to n others at _ 1
+      (walk-one old to n (joined old to others at) _ one room (rw (add-zero to) (rw (add-zero at) refl)))
+      (omega arith)
+
+pub taken-one : (n : ℕ) (d : List ℕ) (to : ℕ) (all new : List ℕ) → n ≡ 1 → to + n ≤ length all → to + n ≤ length new
+    → let v = bitXor (getD d 0 0) (bitAnd (getD d 0 0) (getD all to 0)) in
+    TakenIn n d to all (set all to (bitOr (getD all to 0) v)) new (set new to v)
+taken-one n d to all new one room more =
+    taken-all n d to all _ new _ 1
+    (walk-one all to n (grown d all to) _ one room (rw (add-zero to) refl))
+    (walk-one new to n (fresh d all to) _ one more (rw (add-zero to) refl))
+    (omega arith)
+
 -- the words before place i have no set
 pub empty-all : (words : List ℕ) (at n i : ℕ) → ((j : ℕ) → j < i → getD words (at + j) 0 ≡ 0) → n ≤ i
     → (x : ℕ) → x / 64 < n → holds words at x ≡ false
 unfolding holds
 empty-all words at n i none-in end x l = ap (λ (v : ℕ). has v (x % 64)) (none-in (x / 64) (omega arith)) ∙ none-has (x % 64)
+
+pub empty-one : (words : List ℕ) (at n : ℕ) → n ≡ 1 → getD words at 0 ≡ 0 → (x : ℕ) → x / 64 < n → holds words at x ≡ false
+empty-one words at n one none-in =
+    empty-all words at n 1 (λ j l. let here : at + j ≡ at = omega arith in ap (λ (k : ℕ). getD words k 0) here ∙ none-in) (omega arith)

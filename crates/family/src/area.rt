@@ -1,4 +1,4 @@
-// Families at places of an area.
+// Families at places of an area. Most families have one word: what is done often has a way without a loop for them.
 ghost use mathlib.Core.Path.{_≡_};
 ghost use mathlib.Core.Bool.{true, false};
 ghost use Prim.Native.Nat.{ℕ, _+_, _/_, _<_, _≤_};
@@ -18,6 +18,9 @@ pub fn is_empty_at(words: &[u64], at: usize, n: usize) -> bool
     requires { ⌜ at + n ≤ length (now words) ⌝ }
     ensures { λ r. ⌜ (r ≡ true → (x : ℕ) → x / 64 < n → holds (now (words .entry)) at x ≡ false) ⌝ }
 {
+    if n == 1 {
+        return words[at] == 0;
+    }
     let mut i = 0;
     while i < n {
         if words[at + i] != 0 {
@@ -44,6 +47,10 @@ pub fn clear_at(words: &mut [u64], at: usize, n: usize)
     ensures { λ _. ⌜ Cleared (now (words .entry)) at n (now (words .exit)) ⌝ }
     ensures { λ _. ⌜ length (now (words .exit)) ≡ length (now (words .entry)) ⌝ }
 {
+    if n == 1 {
+        words[at] = 0;
+        return;
+    }
     let mut i = 0;
     while i < n {
         words[at + i] = 0;
@@ -57,6 +64,10 @@ pub fn copy_at(words: &mut [u64], to: usize, others: &[u64], at: usize, n: usize
     ensures { λ _. ⌜ Copied (now (words .entry)) to n (now (others .entry)) at (now (words .exit)) ⌝ }
     ensures { λ _. ⌜ length (now (words .exit)) ≡ length (now (words .entry)) ⌝ }
 {
+    if n == 1 {
+        words[to] = others[at];
+        return;
+    }
     let mut i = 0;
     while i < n {
         words[to + i] = others[at + i];
@@ -70,6 +81,10 @@ pub fn join_at(words: &mut [u64], to: usize, others: &[u64], at: usize, n: usize
     ensures { λ _. ⌜ Joined (now (words .entry)) to n (now (others .entry)) at (now (words .exit)) ⌝ }
     ensures { λ _. ⌜ length (now (words .exit)) ≡ length (now (words .entry)) ⌝ }
 {
+    if n == 1 {
+        words[to] = words[to] | others[at];
+        return;
+    }
     let mut i = 0;
     while i < n {
         words[to + i] = words[to + i] | others[at + i];
@@ -98,6 +113,12 @@ pub fn take_in(all: &mut [u64], new: &mut [u64], to: usize, d: &[u64], n: usize)
     ensures { λ _. ⌜ length (now (all .exit)) ≡ length (now (all .entry)) ⌝ }
     ensures { λ _. ⌜ length (now (new .exit)) ≡ length (now (new .entry)) ⌝ }
 {
+    if n == 1 {
+        let v = d[0] ^ (d[0] & all[to]);
+        new[to] = v;
+        all[to] = all[to] | v;
+        return;
+    }
     let mut t = 0;
     while t < n {
         let v = d[t] ^ (d[t] & all[to + t]);

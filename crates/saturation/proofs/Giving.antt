@@ -7,11 +7,12 @@ use mathlib.Core.Logic.{_⊎_, inl, inr, ⊎-elim, _↔_}
 use mathlib.Core.Bool.{Bool, true, false, not, _&&_, _||_}
 use mathlib.Core.List.{List}
 use lib.ListN.{length, getD, set}
-use lib.Seq.{getD-set-same, getD-set-other}
-use lib.Bits.{bitAnd, bitOr, bitXor}
+use lib.Seq.{getD-set-same, getD-set-other, set-getD}
+use lib.Bits.{bitAnd, bitOr, bitXor, or-zero-r}
 use lib.Dec.{eqb, ltb}
 use borrow.Author.Tests.{eqb-true, eqb-false, ltb-true, ltb-false}
 use Rattle.game.specs.Sets.{has}
+use Rattle.game.specs.SetLaws.{none-has}
 use Rattle.game.specs.ListLaws.{_∈_, test, clash, both, conj, either, left-or, right-or, below-suc}
 use Rattle.game.specs.Game.{PushdownGame}
 use Rattle.game.specs.GoodGame.{Good}
@@ -304,6 +305,16 @@ module _ (at head n size first rule : ℕ) (d all log₀ added₀ : List ℕ) (c
               word-taken log added count j word w lj la′ unseen el g es now b p a lay lp la eh (omega (arith, lp, good .ranged .control)) hold offered r log′ added′ count′ e (k .1 .0) (k .1 .1) (k .1 .2))
               (noting el g es now b p a lay good asc ranged ef lp la eh hold offered r);
         }
+
+  -- a word that has nothing unseen
+  pub giving-none : (log added : List ℕ) (count j word : ℕ) → Giving at head n size first rule d all log₀ added₀ count₀ log added count j → j < n → head * n + n ≤ length added
+      → ((s : ℕ) → (has word s ≡ true) ↔ ((has (getD d (at + j) 0) s ≡ true) × (has (getD all (head * n + j) 0) s ≡ false) × (has (getD added (head * n + j) 0) s ≡ false)))
+      → word ≡ 0 → Giving at head n size first rule d all log₀ added₀ count₀ log added count (j + 1)
+  giving-none log added count j word w lj la unseen e =
+      giving-on log added count j word w lj la unseen log count
+      (λ el g es now b p a ok good asc ranged t ef lp la′ offers.
+      inr (w .room, (now, t, record { from = λ q c z h. inl h; kept = λ q c z h. h; into = λ y m. clash (m .2) (ap (λ (v : ℕ). has v (m .0)) e ∙ none-has (m .0)) })))
+      added (w .room) refl (sym (ap (set added (head * n + j)) (ap (bitOr (getD added (head * n + j) 0)) e ∙ or-zero-r (getD added (head * n + j) 0)) ∙ set-getD added (head * n + j) 0)) refl
 
   pub giving-ends : (log added : List ℕ) (count j : ℕ) → n ≤ j → Giving at head n size first rule d all log₀ added₀ count₀ log added count j
       → (el : List ℕ) (g : PushdownGame) (es now : List Entry) (b p a : ℕ) → Layout el g n → Good g → Ascending es → AllRanged g es → Taking el g es b log₀ count₀ now

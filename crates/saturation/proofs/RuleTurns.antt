@@ -224,3 +224,21 @@ module _ {el : List ℕ} {g : PushdownGame} {n : ℕ} {old es : List Entry} {i a
               ⊎-elim (λ h. heads-old el g es b log′ count′ (t .after) (t .taking) (rule .from) (rule .top) z h)
               (λ k. subst (Head (t .after) (rule .from) (rule .top)) (sym (k .3)) (t .into (k .0) (k .1) (k .1) (k .2)))
               (before-or z m)
+
+      -- where its ends have nothing more
+      pub eloises-still : {size : ℕ} → count ≤ size → ((x : ℕ) → x / 64 < n → holds grown′ (r * n) x ≡ false)
+          → RulesTaken el g n heads states old es i b size now (suc r) all′ keys′ rests′ ends′ grown′ log added lines′ count
+      eloises-still fits none =
+          let s = to .stepped in
+          eloises-rule
+          (inr (
+            fits,
+            record {
+              after = s .after;
+              taking = s .taking;
+              adding = s .adding;
+              kept = λ q c z h. h;
+              only = λ q c z h. inl h;
+              into = λ x lx ln h. clash h (none x ln);
+            },
+          ))

@@ -54,7 +54,7 @@ pub fn family_of(
         let family = head_of(states, lowest(x), letters, c);
         return Found { family, count };
     }
-    let line = hint_at(hints, x, c);
+    let line = hint_at(hints, n, x, c);
     if is_line(keys, count, line, x, c) {
         return Found {
             family: heads + line,
@@ -108,10 +108,10 @@ fn highest(x: usize) -> usize
 }
 
 // Where the line of a set and a letter may be.
-fn hint_at(hints: &[u32], x: usize, c: usize) -> usize
-    requires { ⌜ (0 < length (now hints)) × (x < 1024) × (c < 64) ⌝ }
+fn hint_at(hints: &[u32], n: usize, x: usize, c: usize) -> usize
+    requires { ⌜ (0 < length (now hints)) × (n ≤ 16) × (x < 1024) × (c < 64) ⌝ }
 {
-    line_at(hints[place_of(hints.len(), x, c)])
+    line_at(hints[place_of(hints.len(), n, x, c)])
 }
 
 fn line_at(line: u32) -> usize
@@ -120,11 +120,16 @@ fn line_at(line: u32) -> usize
     line as usize
 }
 
-fn place_of(size: usize, x: usize, c: usize) -> usize
-    requires { ⌜ (0 < size) × (x < 1024) × (c < 64) ⌝ }
+// Letter by letter the place of each set of a family of n words, as far as there are places; then from the first on again.
+fn place_of(size: usize, n: usize, x: usize, c: usize) -> usize
+    requires { ⌜ (0 < size) × (n ≤ 16) × (x < 1024) × (c < 64) ⌝ }
     ensures { λ r. ⌜ r < size ⌝ }
 {
-    ((x + 1024 * c) * 40503 / 64) % size
+    let place = c * n * 64 + x;
+    if place < size {
+        return place;
+    }
+    place % size
 }
 
 // A line is that of a set and a letter.
@@ -235,7 +240,7 @@ fn line_for(
     ensures { λ _. ⌜ length (now (rests .exit)) ≡ length (now (rests .entry)) ⌝ }
     ensures { λ _. ⌜ length (now (hints .exit)) ≡ length (now (hints .entry)) ⌝ }
 {
-    let line = hint_at(hints, y, c);
+    let line = hint_at(hints, n, y, c);
     let count = before.count;
     if is_line(keys, count, line, y, c) {
         return Found {
@@ -257,7 +262,7 @@ fn line_for(
     copy_at(all, (heads + count) * n, &unions, 0, n);
     keys[count] = key_of(y, c);
     rests[count] = family as u32;
-    let place = place_of(hints.len(), y, c);
+    let place = place_of(hints.len(), n, y, c);
     hints[place] = count as u32;
     Found {
         family: heads + count,

@@ -80,11 +80,13 @@ pub fn offer(
     let mut j = 0;
     while j < n {
         let word = unseen(d[at + j], all[head * n + j], added[head * n + j]);
-        entries = note_word(log, entries, size, word, j * 64, first, rule);
-        if size < entries {
-            return entries;
+        if word != 0 {
+            entries = note_word(log, entries, size, word, j * 64, first, rule);
+            if size < entries {
+                return entries;
+            }
+            added[head * n + j] = added[head * n + j] | word;
         }
-        added[head * n + j] = added[head * n + j] | word;
         j += 1;
     }
     entries

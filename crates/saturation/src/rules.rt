@@ -2,6 +2,7 @@
 // that no lower rule gave is then given by this one first.
 use crate::ends::take_ends;
 use crate::offers::offer;
+use family::is_empty_at;
 use game::Game;
 use game::has_state;
 ghost use mathlib.Core.Path.{_≡_};
@@ -163,6 +164,12 @@ fn take_rule(
     let p = rules[r * Game::RULE_STRIDE];
     let a = rules[r * Game::RULE_STRIDE + 1];
     if has_state(abelard, p) {
+        return Counts {
+            entries: before.entries,
+            lines,
+        };
+    }
+    if is_empty_at(grown, r * n, n) {
         return Counts {
             entries: before.entries,
             lines,

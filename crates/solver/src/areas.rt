@@ -213,7 +213,7 @@ fn some_rounds(
     let mut grown = [0u64; 1024];
     let mut keys = [0u32; 768];
     let mut rests = [0u32; 768];
-    let mut hints = [0u32; 4096];
+    let mut hints = [0u32; 8192];
     rounds_in(
         sizes,
         rules,
@@ -262,7 +262,7 @@ fn many_rounds(
     let mut grown = [0u64; 4096];
     let mut keys = [0u32; 256];
     let mut rests = [0u32; 256];
-    let mut hints = [0u32; 4096];
+    let mut hints = [0u32; 8192];
     rounds_in(
         sizes,
         rules,

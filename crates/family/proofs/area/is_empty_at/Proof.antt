@@ -1,12 +1,14 @@
--- The words before place i are empty, so at the end no set of the family is in one of them.
+-- One word is looked at by itself (`empty-one`). In the loop the words before place i are empty, so at the end no set of the family is
+-- in one of them.
 -- What falls is the number of words left. Assumes what the contract requires.
 use Prim.Native.Nat.{ℕ, _+_, _-_, _<_}
 use native.Mathlib.Omega.{arith}
 use mathlib.Core.Path.{_≡_, refl, sym}
 use lib.ListN.{getD}
 use borrow.Author.Count.{below-more}
+use borrow.Author.Tests.{eqb-true}
 use Rattle.game.specs.ListLaws.{clash}
-use Rattle.family.proofs.Areas.{empty-all}
+use Rattle.family.proofs.Areas.{empty-all, empty-one}
 use Rattle.family.proofs.area.is_empty_at.Statement.{statement}
 use Rattle.family.proofs.area.is_empty_at.Tie as tie
 
@@ -16,20 +18,29 @@ Inv-loop words at n i₀ i = (j : ℕ) → j < i → getD words (at + j) 0 ≡ 0
 abbrev μ-loop : tie.MeasureT-loop
 μ-loop words at n i₀ i = n - i
 
+mul-result : tie.Need-mul-result Inv-loop μ-loop
+mul-result c = omega arith
+
+shared-slice-read-result : tie.Need-shared-slice-read-result Inv-loop μ-loop
+shared-slice-read-result c = omega arith
+
+returns : tie.Need-returns Inv-loop μ-loop
+returns c = λ e. empty-one _ _ _ (c .before .if1 .taken) (eqb-true _ _ e)
+
 loop-holds : tie.Need-loop-holds Inv-loop μ-loop
 loop-holds c = λ j l. absurd (omega arith)
 
-add-if1 : tie.Need-add-if1 Inv-loop μ-loop
-add-if1 c = omega arith
+add-if2 : tie.Need-add-if2 Inv-loop μ-loop
+add-if2 c = omega arith
 
-mul-if1 : tie.Need-mul-if1 Inv-loop μ-loop
-mul-if1 c = omega arith
+mul-if2 : tie.Need-mul-if2 Inv-loop μ-loop
+mul-if2 c = omega arith
 
-shared-slice-read-if1 : tie.Need-shared-slice-read-if1 Inv-loop μ-loop
-shared-slice-read-if1 c = omega arith
+shared-slice-read-if2 : tie.Need-shared-slice-read-if2 Inv-loop μ-loop
+shared-slice-read-if2 c = omega arith
 
-returns : tie.Need-returns Inv-loop μ-loop
-returns c = λ e. clash refl (sym e)
+returns-2 : tie.Need-returns-2 Inv-loop μ-loop
+returns-2 c = λ e. clash refl (sym e)
 
 add-i : tie.Need-add-i Inv-loop μ-loop
 add-i c = omega arith
@@ -38,10 +49,10 @@ loop-less : tie.Need-loop-less Inv-loop μ-loop
 loop-less c = omega arith
 
 loop-again : tie.Need-loop-again Inv-loop μ-loop
-loop-again c = below-more _ _ (c .before .before .before .loop .inv) (c .if1 .left)
+loop-again c = below-more _ _ (c .before .before .before .loop .inv) (c .if2 .left)
 
-returns-2 : tie.Need-returns-2 Inv-loop μ-loop
-returns-2 c = λ e. empty-all _ _ _ _ (c .before .loop .inv) (c .loop-test .left)
+returns-3 : tie.Need-returns-3 Inv-loop μ-loop
+returns-3 c = λ e. empty-all _ _ _ _ (c .before .loop .inv) (c .loop-test .left)
 
 pub is-empty-at-spec : {M : Type 1} → statement M
 is-empty-at-spec =
@@ -49,12 +60,15 @@ is-empty-at-spec =
     (tie.spec
     Inv-loop
     μ-loop
-    loop-holds
-    add-if1
-    mul-if1
-    shared-slice-read-if1
+    mul-result
+    shared-slice-read-result
     returns
+    loop-holds
+    add-if2
+    mul-if2
+    shared-slice-read-if2
+    returns-2
     add-i
     loop-less
     loop-again
-    returns-2)
+    returns-3)
