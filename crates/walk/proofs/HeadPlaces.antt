@@ -92,7 +92,7 @@ module _ {A B : Type 0} (f : A → List B) (d : A) where
   skip-front (suc k) (x ∷ xs) l none =
       ap (_++ flatMap f xs) (none 0 (omega arith)) ∙ skip-front k xs (omega arith) (λ i m. none (suc i) (omega arith))
 
-  all-none : (xs : List A) → ((i : ℕ) → i < length xs → f (getD xs i d) ≡ []) → flatMap f xs ≡ []
+  pub all-none : (xs : List A) → ((i : ℕ) → i < length xs → f (getD xs i d) ≡ []) → flatMap f xs ≡ []
   unfolding flatMap
   all-none [] none = refl
   all-none (x ∷ xs) none = ap (_++ flatMap f xs) (none 0 (omega arith)) ∙ all-none xs (λ i m. none (suc i) (omega arith))

@@ -2,6 +2,7 @@ pub mod Lines
 pub mod PlacesKept
 pub mod Enumerating
 pub mod HeadPlaces
+pub mod Blocking
 pub mod Parts
 pub mod Turns
 pub mod Earlier

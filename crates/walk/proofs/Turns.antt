@@ -20,13 +20,14 @@ use Rattle.table.specs.Table.{Entry, entryOf, key}
 use Rattle.table.specs.Rows.{Placed, wordsAt}
 use Rattle.table.specs.declared.entry.EntryWords.{EntryWords}
 use Rattle.judge.specs.Worth.{entryOfHead}
-use Rattle.rounds.specs.Rounds.{entryAt}
+use Rattle.rounds.specs.Rounds.{entryAt, members}
+use Rattle.rounds.specs.EndsLaws.{in-members}
 use Rattle.rounds.specs.Enumeration.{restRuns}
 use Rattle.rounds.specs.Growing.{Growing, grow, growing}
 use Rattle.rounds.specs.Filled.{Filled, Small}
 use Rattle.rounds.specs.InsertLaws.{noEntry, getD-in}
 use Rattle.walk.specs.Memo.{lineAt}
-use Rattle.walk.specs.Places.{PlacedHead, Placing}
+use Rattle.walk.specs.Places.{PlacedHead, Placing, Blocked}
 use Rattle.walk.specs.Jobs.{Late, Whole, Entered, Finished, subRuns, beginRuns, tagOf}
 use Rattle.rounds.specs.Scans.{NextRule, Highest, rulesBetween}
 use Rattle.walk.specs.JobLaws.{none-left}
@@ -35,6 +36,7 @@ use Rattle.walk.specs.NextLaws.{beginOf, begin-at, pops, writes}
 use Rattle.walk.specs.declared.runs.Job.{Job}
 use Rattle.walk.proofs.Parts.{shifted-one, smaller, union-some, whole}
 use Rattle.walk.proofs.HeadPlaces.{before-head, after-head, skip-front, skip-end}
+use Rattle.walk.proofs.Blocking.{no-runs}
 use Rattle.walk.proofs.Enumerating.{given, Scanning, unchanged, named, noted, entry-small, added}
 use Rattle.rounds.specs.StoredRows.{entry-at}
 
@@ -237,6 +239,28 @@ module _ (g : PushdownGame) (old : List Entry) (birthdate n : ℕ) (job : Job) (
         ∙ ap (first-of true) (ne-eqb (rule-of .count) 1 two)
         ∙ ap (λ (x : ℕ). subRuns g old (job .state) (job .letter) (job .end) r x u) (sym e))
         f
+
+  -- `runs_with`: a state of the entry's set has no entry on the rule's lower letter
+  pub blocked : (r : ℕ) (l : r < job .end) (places : List ℕ) → Placing g work (job .count) places → (set u : ℕ) → set < 2 ^ g .states
+      → Blocked set (job .count) places (getD rules (r * 6 + 5) 0)
+      → Leaves (subRuns g old (job .state) (job .letter) (job .end) r set u) words count memo
+  unfolding subRuns
+  blocked r l places placing set u small none =
+      let q = none .state in
+      let inside = state-of set q (g .states) small (none .member) in
+      let there = placing q (rule r l .below) inside (h .stands .ranged .rule (rule r l) (getD-in noRule (g .rules) r (within r l)) .below) in
+      nothing
+      (no-runs n work (job .count) old (h .stands .stored) q (rule r l .below) (none .first) (none .last) (starts (none .starts work) there) (ends (none .ends work) there) (none .none) g
+      (rulesBetween g (job .state) (job .letter) (suc r) (job .end)) (members (g .states) set) (in-members (g .states) set inside (none .member)) u)
+    where
+      -- by the letter as the rule has it
+      starts : {q x : ℕ} → (PlacedHead work (job .count) places q (getD rules (r * 6 + 5) 0) → Placed work (job .count) (key q (getD rules (r * 6 + 5) 0) 0) x)
+          → PlacedHead work (job .count) places q (rule r l .below) → Placed work (job .count) (key q (rule r l .below) 0) x
+      starts f m = rw (below-is r l) at f m
+
+      ends : {q x : ℕ} → (PlacedHead work (job .count) places q (getD rules (r * 6 + 5) 0) → Placed work (job .count) (key q (getD rules (r * 6 + 5) 0) 4294967296) x)
+          → PlacedHead work (job .count) places q (rule r l .below) → Placed work (job .count) (key q (rule r l .below) 4294967296) x
+      ends f m = rw (below-is r l) at f m
 
   -- `rules_from`: no rule is left, or the next one writes nothing, or it writes letters
   module _ (from u r : ℕ) (next : NextRule rules (job .end) from (job .state) (job .letter) r) where

@@ -46,8 +46,6 @@ pub fn finish(memo: &mut [u32], tag: u32, left: u32, union: u32)
 
 // The line of a key.
 fn line_of(tag: u32, left: u32, union: u32) -> usize {
-    let mixed = (tag as u64) * 2654435761
-        + (left as u64) * 40503
-        + (union as u64) % 1048576 * 2246822519;
-    ((mixed / 32768) % 16384) as usize
+    let mixed = (tag as u64) * 2654435769 + (left as u64) * 374761393 + (union as u64) * 668265263;
+    ((mixed / 65536) % 16384) as usize
 }

@@ -1,13 +1,15 @@
 // Where the entries of each head stand in the old round: looked up once for each head of a round, then read.
+use rounds::highest;
 use table::end_of;
 use table::start_of;
 ghost use mathlib.Core.Path.{_≡_};
+ghost use mathlib.Core.Bool.{true, false};
 ghost use mathlib.Core.List.{List};
 ghost use Prim.Native.Nat.{ℕ, _+_, _*_, _<_, _≤_, min};
 ghost use lib.ListN.{length};
 ghost use Rattle.table.specs.Table.{key};
 ghost use Rattle.table.specs.Rows.{Placed};
-ghost use Rattle.walk.specs.Places.{placeAt, PlacedHead, PlacedTo};
+ghost use Rattle.walk.specs.Places.{placeAt, PlacedHead, PlacedTo, Blocked};
 
 // Two places for each of 32 states and 64 letters: a head's first entry, and after its last.
 pub const PLACES: usize = 4096;
@@ -34,6 +36,25 @@ pub fn end_at(places: &[usize], count: usize, q: u8, a: u8) -> usize
         return count;
     }
     within(places[at], count)
+}
+
+// No run passes a set on a letter: it is empty, or a state of it has no entry on the letter.
+pub fn is_blocked(places: &[usize], count: usize, set: u32, a: u8) -> bool
+    ensures { λ r. ⌜ (r ≡ true → 0 < set → Blocked set count (now (places .entry)) a) ⌝ }
+    ensures { λ r. ⌜ (r ≡ false → 0 < set) ⌝ }
+{
+    if set == 0 {
+        return true;
+    }
+    let mut left = set;
+    while left != 0 {
+        let q = highest(left);
+        if end_at(places, count, q, a) <= start_at(places, count, q, a) {
+            return true;
+        }
+        left = left % (1u32 << q);
+    }
+    false
 }
 
 // Where a head's places are.

@@ -6,6 +6,7 @@ use crate::fresh::still_late;
 use crate::memo::finish;
 use crate::memo::is_finished;
 use crate::places::end_at;
+use crate::places::is_blocked;
 use crate::places::start_at;
 use game::Game;
 use rounds::highest;
@@ -192,7 +193,7 @@ pub fn runs_with(
             still,
         );
     }
-    if entry.set == 0 {
+    if is_blocked(places, job.count, entry.set, rules[at + 5]) {
         return count;
     }
     let among = entry.set & fresh_on(fresh, rules[at + 5]);

@@ -28,7 +28,7 @@ use Rattle.walk.proofs.Earlier.{none-older, set-older, past-rest, past-
 use Rattle.walk.proofs.Depth.{Bounded, bounded-start, deep, bounded-at, bounded-before, bounded-after, remaining, falls-here, falls-before, falls-after}
 use Rattle.walk.proofs.LevelParts.{earlier}
 use Rattle.walk.proofs.Walking.{Walking, walk-starts, walk-ends, walk-back, past-last, walk-takes, walk-opens}
-use Rattle.walk.proofs.Turns.{hit, notes, begins-none, begins-one, begins-two, no-rule, job-of, pops-first, writes-first, other-state, other-letter, same-head, to-is, count-is, above-is, below-is, none-of-it, rest-is, set-of, set-below, set-adds, union-adds, joins, joins-some, begun, scan-from, scan-to, begins-nothing, within, above-placed, starts-below, ends-below, below-small, word-adds, rest-below}
+use Rattle.walk.proofs.Turns.{hit, notes, begins-none, begins-one, begins-two, blocked, no-rule, job-of, pops-first, writes-first, other-state, other-letter, same-head, to-is, count-is, above-is, below-is, none-of-it, rest-is, set-of, set-below, set-adds, union-adds, joins, joins-some, begun, scan-from, scan-to, begins-nothing, within, above-placed, starts-below, ends-below, below-small, word-adds, rest-below}
 use Rattle.rounds.specs.StoredRows.{long-of}
 use lib.Pow.{pow-pos}
 use Prim.Native.Nat.{ℕ, _<_}
@@ -58,6 +58,7 @@ use Rattle.walk.proofs.fresh.still_late.Reads as still-late-reads
 use Rattle.walk.proofs.memo.finish.Reads as finish-reads
 use Rattle.walk.proofs.memo.is_finished.Reads as is-finished-reads
 use Rattle.walk.proofs.places.end_at.Reads as end-at-reads
+use Rattle.walk.proofs.places.is_blocked.Reads as is-blocked-reads
 use Rattle.walk.proofs.places.start_at.Reads as start-at-reads
 use Rattle.walk.proofs.runs.joined.Reads as joined-reads
 use Rattle.walk.proofs.runs.next_open.Reads as next-open-reads
@@ -182,6 +183,8 @@ runs-with-claims t = (
   still-late-reads.Learnt,
   rules-after-below t,
   rules-after.Post,
+  is-blocked-reads.Asked,
+  is-blocked-reads.Learnt,
   fresh-on-reads.Asked,
   fresh-on-reads.Learnt,
   older-below-reads.Asked,
@@ -585,8 +588,17 @@ runs-with-same-length-2 t c = search needs
 runs-with-returns-3 : (t : ℕ) → runs-with-lts.Need-returns-3 (runs-with-claims t) (runs-with-at t) runs-with.Post
 runs-with-returns-3 t c = (λ g old b n s h pl ag whole past. begins-one g old b n _ _ _ _ _ _ s h _ _ _ _ (set-of g old b n _ _ _ _ _ _ s h _ (c .before .before .before .before .before .before .before .before .before .before .before .before .before .before .before .before .before .before .before .before .before .before .before .before .pre .1 .2) _ (c .before .before .before .before .before .before .before .before .before .before .before .before .before .before .before .before .before .at .ensures)) (same-head g old b n _ _ _ _ _ _ s h _ (c .before .before .before .before .before .before .before .before .before .before .before .before .before .before .before .before .before .before .before .before .before .before .before .before .pre .1 .2) _ (c .before .before .before .before .before .before .before .before .before .before .before .before .before .before .before .before .before .at .ensures) _ _ (sym (c .before .before .before .before .before .before .before .before .before .before .before .before .before .before .before .before .state .ensures) ∙ c .before .before .before .before .before .before .before .before .before .before .before .before .before .before .if1 .left ∙ to-is g old b n _ _ _ _ _ _ s h _ (c .before .before .before .before .before .before .before .before .before .before .before .before .before .before .before .before .before .before .before .before .before .before .before .before .pre .1 .1)) (sym (c .before .before .before .before .before .before .before .before .before .before .before .before .before .letter .ensures) ∙ c .before .before .before .before .before .before .before .before .before .before .before .if2 .left ∙ above-is g old b n _ _ _ _ _ _ s h _ (c .before .before .before .before .before .before .before .before .before .before .before .before .before .before .before .before .before .before .before .before .before .before .before .before .pre .1 .1))) (sym (count-is g old b n _ _ _ _ _ _ s h _ (c .before .before .before .before .before .before .before .before .before .before .before .before .before .before .before .before .before .before .before .before .before .before .before .before .pre .1 .1)) ∙ c .before .before .before .before .before .before .before .before .if3 .taken) (c .before .before .before .before .rules-after .ensures .0 g old b n s h pl ag whole (union-adds g old b n _ _ _ _ _ _ s h _ (c .before .before .before .before .before .before .before .before .before .before .before .before .before .before .before .before .before .before .before .before .before .before .before .before .pre .1 .2) _ (c .before .before .before .before .before .before .before .before .before .before .before .before .before .before .before .before .before .at .ensures) (c .before .before .before .before .before .before .before .before .before .before .before .before .before .before .before .before .before .before .before .before .before .before .before .before .args .union)) (past-one g old b n _ _ _ _ _ _ s h _ _ (c .before .before .before .before .before .before .before .before .before .before .before .before .before .before .before .before .before .before .before .before .before .before .before .before .args .union) _ past (c .before .before .before .before .before .before .before .before .before .before .before .before .before .before .before .before .before .before .before .before .before .before .before .before .pre .1 .2) _ (c .before .before .before .before .before .before .before .before .before .before .before .before .before .before .before .before .before .at .ensures) (c .before .before .before .before .before .before .before .before .before .before .still-late .result) (c .before .before .before .before .before .before .before .before .before .before .still-late .ensures) (set-of g old b n _ _ _ _ _ _ s h _ (c .before .before .before .before .before .before .before .before .before .before .before .before .before .before .before .before .before .before .before .before .before .before .before .before .pre .1 .2) _ (c .before .before .before .before .before .before .before .before .before .before .before .before .before .before .before .before .before .at .ensures)) (same-head g old b n _ _ _ _ _ _ s h _ (c .before .before .before .before .before .before .before .before .before .before .before .before .before .before .before .before .before .before .before .before .before .before .before .before .pre .1 .2) _ (c .before .before .before .before .before .before .before .before .before .before .before .before .before .before .before .before .before .at .ensures) _ _ (sym (c .before .before .before .before .before .before .before .before .before .before .before .before .before .before .before .before .state .ensures) ∙ c .before .before .before .before .before .before .before .before .before .before .before .before .before .before .if1 .left ∙ to-is g old b n _ _ _ _ _ _ s h _ (c .before .before .before .before .before .before .before .before .before .before .before .before .before .before .before .before .before .before .before .before .before .before .before .before .pre .1 .1)) (sym (c .before .before .before .before .before .before .before .before .before .before .before .before .before .letter .ensures) ∙ c .before .before .before .before .before .before .before .before .before .before .before .if2 .left ∙ above-is g old b n _ _ _ _ _ _ s h _ (c .before .before .before .before .before .before .before .before .before .before .before .before .before .before .before .before .before .before .before .before .before .before .before .before .pre .1 .1))) (sym (count-is g old b n _ _ _ _ _ _ s h _ (c .before .before .before .before .before .before .before .before .before .before .before .before .before .before .before .before .before .before .before .before .before .before .before .before .pre .1 .1)) ∙ c .before .before .before .before .before .before .before .before .if3 .taken))), c .before .before .before .before .rules-after .ensures .1)
 
+runs-with-add-is-blocked : (t : ℕ) → runs-with-lts.Need-add-is-blocked (runs-with-claims t) (runs-with-at t) runs-with.Post
+runs-with-add-is-blocked t c = omega arith
+
+runs-with-shared-slice-read-is-blocked : (t : ℕ) → runs-with-lts.Need-shared-slice-read-is-blocked (runs-with-claims t) (runs-with-at t) runs-with.Post
+runs-with-shared-slice-read-is-blocked t c = omega arith
+
+runs-with-is-blocked-requires : (t : ℕ) → runs-with-lts.Need-is-blocked-requires (runs-with-claims t) (runs-with-at t) runs-with.Post
+runs-with-is-blocked-requires t c κs = search needs
+
 runs-with-returns-4 : (t : ℕ) → runs-with-lts.Need-returns-4 (runs-with-claims t) (runs-with-at t) runs-with.Post
-runs-with-returns-4 t c = (λ g old b n s h pl ag whole past. absurd (omega (arith, c .if4 .taken, set-adds g old b n _ _ _ _ _ _ s h _ (c .before .before .before .before .before .before .before .before .before .before .before .before .before .before .before .before .before .before .pre .1 .2) _ (c .before .before .before .before .before .before .before .before .before .before .before .at .ensures) 0)), (refl, refl))
+runs-with-returns-4 t c = (λ g old b n s h pl ag whole past. begins-two g old b n _ _ _ _ _ _ s h _ _ _ _ (set-of g old b n _ _ _ _ _ _ s h _ (c .before .before .before .before .before .before .before .before .before .before .before .before .before .before .before .before .before .before .before .pre .1 .2) _ (c .before .before .before .before .before .before .before .before .before .before .before .before .at .ensures)) (same-head g old b n _ _ _ _ _ _ s h _ (c .before .before .before .before .before .before .before .before .before .before .before .before .before .before .before .before .before .before .before .pre .1 .2) _ (c .before .before .before .before .before .before .before .before .before .before .before .before .at .ensures) _ _ (sym (c .before .before .before .before .before .before .before .before .before .before .before .state .ensures) ∙ c .before .before .before .before .before .before .before .before .before .if1 .left ∙ to-is g old b n _ _ _ _ _ _ s h _ (c .before .before .before .before .before .before .before .before .before .before .before .before .before .before .before .before .before .before .before .pre .1 .1)) (sym (c .before .before .before .before .before .before .before .before .letter .ensures) ∙ c .before .before .before .before .before .before .if2 .left ∙ above-is g old b n _ _ _ _ _ _ s h _ (c .before .before .before .before .before .before .before .before .before .before .before .before .before .before .before .before .before .before .before .pre .1 .1))) (λ e. c .before .before .before .if3 .left (count-is g old b n _ _ _ _ _ _ s h _ (c .before .before .before .before .before .before .before .before .before .before .before .before .before .before .before .before .before .before .before .pre .1 .1) ∙ e)) (blocked g old b n _ _ _ _ _ _ s h _ (c .before .before .before .before .before .before .before .before .before .before .before .before .before .before .before .before .before .before .before .pre .1 .1) _ pl _ _ (set-below g old b n _ _ _ _ _ _ s h _ (c .before .before .before .before .before .before .before .before .before .before .before .before .before .before .before .before .before .before .before .pre .1 .2) _ (c .before .before .before .before .before .before .before .before .before .before .before .before .at .ensures)) (c .before .is-blocked .ensures .0 (c .if4 .taken) (omega (arith, set-adds g old b n _ _ _ _ _ _ s h _ (c .before .before .before .before .before .before .before .before .before .before .before .before .before .before .before .before .before .before .before .pre .1 .2) _ (c .before .before .before .before .before .before .before .before .before .before .before .before .at .ensures) 0)))), (refl, refl))
 
 runs-with-add-fresh-on : (t : ℕ) → runs-with-lts.Need-add-fresh-on (runs-with-claims t) (runs-with-at t) runs-with.Post
 runs-with-add-fresh-on t c = omega arith
@@ -598,13 +610,13 @@ runs-with-fresh-on-requires : (t : ℕ) → runs-with-lts.Need-fresh-on-requires
 runs-with-fresh-on-requires t c κs = search needs
 
 runs-with-older-below-requires : (t : ℕ) → runs-with-lts.Need-older-below-requires (runs-with-claims t) (runs-with-at t) runs-with.Post
-runs-with-older-below-requires t c κs = omega (arith, c .before .before .before .before .before .before .before .before .before .before .before .before .before .before .before .before .before .before .before .before .before .pre .1 .0 .few, c .before .before .before .before .before .before .before .before .before .before .before .before .before .before .before .before .before .before .before .before .before .pre .1 .1)
+runs-with-older-below-requires t c κs = omega (arith, c .before .before .before .before .before .before .before .before .before .before .before .before .before .before .before .before .before .before .before .before .before .before .pre .1 .0 .few, c .before .before .before .before .before .before .before .before .before .before .before .before .before .before .before .before .before .before .before .before .before .before .pre .1 .1)
 
 runs-with-returns-5 : (t : ℕ) → runs-with-lts.Need-returns-5 (runs-with-claims t) (runs-with-at t) runs-with.Post
-runs-with-returns-5 t c = (λ g old b n s h pl ag whole past. let known = c .before .older-below .ensures (c .if5 .taken) in begins-two g old b n _ _ _ _ _ _ s h _ _ _ _ (set-of g old b n _ _ _ _ _ _ s h _ (c .before .before .before .before .before .before .before .before .before .before .before .before .before .before .before .before .before .before .before .before .before .before .before .pre .1 .2) _ (c .before .before .before .before .before .before .before .before .before .before .before .before .before .before .before .before .at .ensures)) (same-head g old b n _ _ _ _ _ _ s h _ (c .before .before .before .before .before .before .before .before .before .before .before .before .before .before .before .before .before .before .before .before .before .before .before .pre .1 .2) _ (c .before .before .before .before .before .before .before .before .before .before .before .before .before .before .before .before .at .ensures) _ _ (sym (c .before .before .before .before .before .before .before .before .before .before .before .before .before .before .before .state .ensures) ∙ c .before .before .before .before .before .before .before .before .before .before .before .before .before .if1 .left ∙ to-is g old b n _ _ _ _ _ _ s h _ (c .before .before .before .before .before .before .before .before .before .before .before .before .before .before .before .before .before .before .before .before .before .before .before .pre .1 .1)) (sym (c .before .before .before .before .before .before .before .before .before .before .before .before .letter .ensures) ∙ c .before .before .before .before .before .before .before .before .before .before .if2 .left ∙ above-is g old b n _ _ _ _ _ _ s h _ (c .before .before .before .before .before .before .before .before .before .before .before .before .before .before .before .before .before .before .before .before .before .before .before .pre .1 .1))) (λ e. c .before .before .before .before .before .before .before .if3 .left (count-is g old b n _ _ _ _ _ _ s h _ (c .before .before .before .before .before .before .before .before .before .before .before .before .before .before .before .before .before .before .before .before .before .before .before .pre .1 .1) ∙ e)) (set-older g old b n _ _ _ _ _ _ s h (c .before .before .before .before .before .before .before .before .before .before .before .before .before .before .before .before .before .before .before .before .before .before .before .args .fresh .now) ag _ _ _ _ (past-two g old b n _ _ _ _ _ _ s h _ _ (c .before .before .before .before .before .before .before .before .before .before .before .before .before .before .before .before .before .before .before .before .before .before .before .args .union) _ past (c .before .before .before .before .before .before .before .before .before .before .before .before .before .before .before .before .before .before .before .before .before .before .before .pre .1 .2) _ (c .before .before .before .before .before .before .before .before .before .before .before .before .before .before .before .before .at .ensures) (c .before .before .before .before .before .before .before .before .before .still-late .result) (c .before .before .before .before .before .before .before .before .before .still-late .ensures) (set-of g old b n _ _ _ _ _ _ s h _ (c .before .before .before .before .before .before .before .before .before .before .before .before .before .before .before .before .before .before .before .before .before .before .before .pre .1 .2) _ (c .before .before .before .before .before .before .before .before .before .before .before .before .before .before .before .before .at .ensures)) (same-head g old b n _ _ _ _ _ _ s h _ (c .before .before .before .before .before .before .before .before .before .before .before .before .before .before .before .before .before .before .before .before .before .before .before .pre .1 .2) _ (c .before .before .before .before .before .before .before .before .before .before .before .before .before .before .before .before .at .ensures) _ _ (sym (c .before .before .before .before .before .before .before .before .before .before .before .before .before .before .before .state .ensures) ∙ c .before .before .before .before .before .before .before .before .before .before .before .before .before .if1 .left ∙ to-is g old b n _ _ _ _ _ _ s h _ (c .before .before .before .before .before .before .before .before .before .before .before .before .before .before .before .before .before .before .before .before .before .before .before .pre .1 .1)) (sym (c .before .before .before .before .before .before .before .before .before .before .before .before .letter .ensures) ∙ c .before .before .before .before .before .before .before .before .before .before .if2 .left ∙ above-is g old b n _ _ _ _ _ _ s h _ (c .before .before .before .before .before .before .before .before .before .before .before .before .before .before .before .before .before .before .before .before .before .before .before .pre .1 .1))) (λ e. c .before .before .before .before .before .before .before .if3 .left (count-is g old b n _ _ _ _ _ _ s h _ (c .before .before .before .before .before .before .before .before .before .before .before .before .before .before .before .before .before .before .before .before .before .before .before .pre .1 .1) ∙ e))) (omega (arith, known .0, c .if5 .taken)) (known .1) (c .before .before .before .fresh-on .result) (c .before .before .before .fresh-on .ensures ∙ ap (λ (a : ℕ). getD (c .before .before .before .before .before .before .before .before .before .before .before .before .before .before .before .before .before .before .before .before .before .before .before .args .fresh .now) a 0) (below-is g old b n _ _ _ _ _ _ s h _ (c .before .before .before .before .before .before .before .before .before .before .before .before .before .before .before .before .before .before .before .before .before .before .before .pre .1 .1))) (known .2)), (refl, refl))
+runs-with-returns-5 t c = (λ g old b n s h pl ag whole past. let known = c .before .older-below .ensures (c .if5 .taken) in begins-two g old b n _ _ _ _ _ _ s h _ _ _ _ (set-of g old b n _ _ _ _ _ _ s h _ (c .before .before .before .before .before .before .before .before .before .before .before .before .before .before .before .before .before .before .before .before .before .before .before .before .pre .1 .2) _ (c .before .before .before .before .before .before .before .before .before .before .before .before .before .before .before .before .before .at .ensures)) (same-head g old b n _ _ _ _ _ _ s h _ (c .before .before .before .before .before .before .before .before .before .before .before .before .before .before .before .before .before .before .before .before .before .before .before .before .pre .1 .2) _ (c .before .before .before .before .before .before .before .before .before .before .before .before .before .before .before .before .before .at .ensures) _ _ (sym (c .before .before .before .before .before .before .before .before .before .before .before .before .before .before .before .before .state .ensures) ∙ c .before .before .before .before .before .before .before .before .before .before .before .before .before .before .if1 .left ∙ to-is g old b n _ _ _ _ _ _ s h _ (c .before .before .before .before .before .before .before .before .before .before .before .before .before .before .before .before .before .before .before .before .before .before .before .before .pre .1 .1)) (sym (c .before .before .before .before .before .before .before .before .before .before .before .before .before .letter .ensures) ∙ c .before .before .before .before .before .before .before .before .before .before .before .if2 .left ∙ above-is g old b n _ _ _ _ _ _ s h _ (c .before .before .before .before .before .before .before .before .before .before .before .before .before .before .before .before .before .before .before .before .before .before .before .before .pre .1 .1))) (λ e. c .before .before .before .before .before .before .before .before .if3 .left (count-is g old b n _ _ _ _ _ _ s h _ (c .before .before .before .before .before .before .before .before .before .before .before .before .before .before .before .before .before .before .before .before .before .before .before .before .pre .1 .1) ∙ e)) (set-older g old b n _ _ _ _ _ _ s h (c .before .before .before .before .before .before .before .before .before .before .before .before .before .before .before .before .before .before .before .before .before .before .before .before .args .fresh .now) ag _ _ _ _ (past-two g old b n _ _ _ _ _ _ s h _ _ (c .before .before .before .before .before .before .before .before .before .before .before .before .before .before .before .before .before .before .before .before .before .before .before .before .args .union) _ past (c .before .before .before .before .before .before .before .before .before .before .before .before .before .before .before .before .before .before .before .before .before .before .before .before .pre .1 .2) _ (c .before .before .before .before .before .before .before .before .before .before .before .before .before .before .before .before .before .at .ensures) (c .before .before .before .before .before .before .before .before .before .before .still-late .result) (c .before .before .before .before .before .before .before .before .before .before .still-late .ensures) (set-of g old b n _ _ _ _ _ _ s h _ (c .before .before .before .before .before .before .before .before .before .before .before .before .before .before .before .before .before .before .before .before .before .before .before .before .pre .1 .2) _ (c .before .before .before .before .before .before .before .before .before .before .before .before .before .before .before .before .before .at .ensures)) (same-head g old b n _ _ _ _ _ _ s h _ (c .before .before .before .before .before .before .before .before .before .before .before .before .before .before .before .before .before .before .before .before .before .before .before .before .pre .1 .2) _ (c .before .before .before .before .before .before .before .before .before .before .before .before .before .before .before .before .before .at .ensures) _ _ (sym (c .before .before .before .before .before .before .before .before .before .before .before .before .before .before .before .before .state .ensures) ∙ c .before .before .before .before .before .before .before .before .before .before .before .before .before .before .if1 .left ∙ to-is g old b n _ _ _ _ _ _ s h _ (c .before .before .before .before .before .before .before .before .before .before .before .before .before .before .before .before .before .before .before .before .before .before .before .before .pre .1 .1)) (sym (c .before .before .before .before .before .before .before .before .before .before .before .before .before .letter .ensures) ∙ c .before .before .before .before .before .before .before .before .before .before .before .if2 .left ∙ above-is g old b n _ _ _ _ _ _ s h _ (c .before .before .before .before .before .before .before .before .before .before .before .before .before .before .before .before .before .before .before .before .before .before .before .before .pre .1 .1))) (λ e. c .before .before .before .before .before .before .before .before .if3 .left (count-is g old b n _ _ _ _ _ _ s h _ (c .before .before .before .before .before .before .before .before .before .before .before .before .before .before .before .before .before .before .before .before .before .before .before .before .pre .1 .1) ∙ e))) (omega (arith, known .0, c .if5 .taken)) (known .1) (c .before .before .before .fresh-on .result) (c .before .before .before .fresh-on .ensures ∙ ap (λ (a : ℕ). getD (c .before .before .before .before .before .before .before .before .before .before .before .before .before .before .before .before .before .before .before .before .before .before .before .before .args .fresh .now) a 0) (below-is g old b n _ _ _ _ _ _ s h _ (c .before .before .before .before .before .before .before .before .before .before .before .before .before .before .before .before .before .before .before .before .before .before .before .before .pre .1 .1))) (known .2)), (refl, refl))
 
 runs-with-pass-states-requires : (t : ℕ) → runs-with-lts.Need-pass-states-requires (runs-with-claims t) (runs-with-at t) runs-with.Post
-runs-with-pass-states-requires t c κs = (omega (arith, c .before .before .before .before .before .before .before .before .before .before .before .before .before .before .before .before .before .before .before .before .before .before .before .before .before .pre .0, c .before .before .before .before .before .before .before .before .before .before .before .before .before .before .before .before .before .before .before .before .before .before .before .before .before .pre .1 .1), (c .before .before .before .before .before .before .before .before .before .before .before .before .before .before .before .before .before .before .before .before .before .before .before .before .before .pre .1 .0, c .before .before .before .before .before .before .before .before .before .before .before .before .before .before .before .before .before .before .before .before .before .before .before .before .before .pre .1 .1, omega (arith, c .before .before .before .before .before .before .before .if4 .left)))
+runs-with-pass-states-requires t c κs = (omega (arith, c .before .before .before .before .before .before .before .before .before .before .before .before .before .before .before .before .before .before .before .before .before .before .before .before .before .before .pre .0, c .before .before .before .before .before .before .before .before .before .before .before .before .before .before .before .before .before .before .before .before .before .before .before .before .before .before .pre .1 .1), (c .before .before .before .before .before .before .before .before .before .before .before .before .before .before .before .before .before .before .before .before .before .before .before .before .before .before .pre .1 .0, c .before .before .before .before .before .before .before .before .before .before .before .before .before .before .before .before .before .before .before .before .before .before .before .before .before .before .pre .1 .1, c .before .before .before .before .before .before .before .before .is-blocked .ensures .1 (c .before .before .before .before .before .before .before .if4 .left)))
 
 runs-with-same-length-3 : (t : ℕ) → runs-with-lts.Need-same-length-3 (runs-with-claims t) (runs-with-at t) runs-with.Post
 runs-with-same-length-3 t c = search needs
@@ -613,7 +625,7 @@ runs-with-same-length-4 : (t : ℕ) → runs-with-lts.Need-same-length-4 (runs-w
 runs-with-same-length-4 t c = search needs
 
 runs-with-returns-6 : (t : ℕ) → runs-with-lts.Need-returns-6 (runs-with-claims t) (runs-with-at t) runs-with.Post
-runs-with-returns-6 t c = (λ g old b n s h pl ag whole past. begins-two g old b n _ _ _ _ _ _ s h _ _ _ _ (set-of g old b n _ _ _ _ _ _ s h _ (c .before .before .before .before .before .before .before .before .before .before .before .before .before .before .before .before .before .before .before .before .before .before .before .before .before .before .before .before .before .before .pre .1 .2) _ (c .before .before .before .before .before .before .before .before .before .before .before .before .before .before .before .before .before .before .before .before .before .before .before .at .ensures)) (same-head g old b n _ _ _ _ _ _ s h _ (c .before .before .before .before .before .before .before .before .before .before .before .before .before .before .before .before .before .before .before .before .before .before .before .before .before .before .before .before .before .before .pre .1 .2) _ (c .before .before .before .before .before .before .before .before .before .before .before .before .before .before .before .before .before .before .before .before .before .before .before .at .ensures) _ _ (sym (c .before .before .before .before .before .before .before .before .before .before .before .before .before .before .before .before .before .before .before .before .before .before .state .ensures) ∙ c .before .before .before .before .before .before .before .before .before .before .before .before .before .before .before .before .before .before .before .before .if1 .left ∙ to-is g old b n _ _ _ _ _ _ s h _ (c .before .before .before .before .before .before .before .before .before .before .before .before .before .before .before .before .before .before .before .before .before .before .before .before .before .before .before .before .before .before .pre .1 .1)) (sym (c .before .before .before .before .before .before .before .before .before .before .before .before .before .before .before .before .before .before .before .letter .ensures) ∙ c .before .before .before .before .before .before .before .before .before .before .before .before .before .before .before .before .before .if2 .left ∙ above-is g old b n _ _ _ _ _ _ s h _ (c .before .before .before .before .before .before .before .before .before .before .before .before .before .before .before .before .before .before .before .before .before .before .before .before .before .before .before .before .before .before .pre .1 .1))) (λ e. c .before .before .before .before .before .before .before .before .before .before .before .before .before .before .if3 .left (count-is g old b n _ _ _ _ _ _ s h _ (c .before .before .before .before .before .before .before .before .before .before .before .before .before .before .before .before .before .before .before .before .before .before .before .before .before .before .before .before .before .before .pre .1 .1) ∙ e)) (c .before .before .before .before .pass-states .ensures .0 g old b n s h pl ag whole (set-below g old b n _ _ _ _ _ _ s h _ (c .before .before .before .before .before .before .before .before .before .before .before .before .before .before .before .before .before .before .before .before .before .before .before .before .before .before .before .before .before .before .pre .1 .2) _ (c .before .before .before .before .before .before .before .before .before .before .before .before .before .before .before .before .before .before .before .before .before .before .before .at .ensures)) (past-two g old b n _ _ _ _ _ _ s h _ _ (c .before .before .before .before .before .before .before .before .before .before .before .before .before .before .before .before .before .before .before .before .before .before .before .before .before .before .before .before .before .before .args .union) _ past (c .before .before .before .before .before .before .before .before .before .before .before .before .before .before .before .before .before .before .before .before .before .before .before .before .before .before .before .before .before .before .pre .1 .2) _ (c .before .before .before .before .before .before .before .before .before .before .before .before .before .before .before .before .before .before .before .before .before .before .before .at .ensures) (c .before .before .before .before .before .before .before .before .before .before .before .before .before .before .before .before .still-late .result) (c .before .before .before .before .before .before .before .before .before .before .before .before .before .before .before .before .still-late .ensures) (set-of g old b n _ _ _ _ _ _ s h _ (c .before .before .before .before .before .before .before .before .before .before .before .before .before .before .before .before .before .before .before .before .before .before .before .before .before .before .before .before .before .before .pre .1 .2) _ (c .before .before .before .before .before .before .before .before .before .before .before .before .before .before .before .before .before .before .before .before .before .before .before .at .ensures)) (same-head g old b n _ _ _ _ _ _ s h _ (c .before .before .before .before .before .before .before .before .before .before .before .before .before .before .before .before .before .before .before .before .before .before .before .before .before .before .before .before .before .before .pre .1 .2) _ (c .before .before .before .before .before .before .before .before .before .before .before .before .before .before .before .before .before .before .before .before .before .before .before .at .ensures) _ _ (sym (c .before .before .before .before .before .before .before .before .before .before .before .before .before .before .before .before .before .before .before .before .before .before .state .ensures) ∙ c .before .before .before .before .before .before .before .before .before .before .before .before .before .before .before .before .before .before .before .before .if1 .left ∙ to-is g old b n _ _ _ _ _ _ s h _ (c .before .before .before .before .before .before .before .before .before .before .before .before .before .before .before .before .before .before .before .before .before .before .before .before .before .before .before .before .before .before .pre .1 .1)) (sym (c .before .before .before .before .before .before .before .before .before .before .before .before .before .before .before .before .before .before .before .letter .ensures) ∙ c .before .before .before .before .before .before .before .before .before .before .before .before .before .before .before .before .before .if2 .left ∙ above-is g old b n _ _ _ _ _ _ s h _ (c .before .before .before .before .before .before .before .before .before .before .before .before .before .before .before .before .before .before .before .before .before .before .before .before .before .before .before .before .before .before .pre .1 .1))) (λ e. c .before .before .before .before .before .before .before .before .before .before .before .before .before .before .if3 .left (count-is g old b n _ _ _ _ _ _ s h _ (c .before .before .before .before .before .before .before .before .before .before .before .before .before .before .before .before .before .before .before .before .before .before .before .before .before .before .before .before .before .before .pre .1 .1) ∙ e)))), c .before .before .before .before .pass-states .ensures .1)
+runs-with-returns-6 t c = (λ g old b n s h pl ag whole past. begins-two g old b n _ _ _ _ _ _ s h _ _ _ _ (set-of g old b n _ _ _ _ _ _ s h _ (c .before .before .before .before .before .before .before .before .before .before .before .before .before .before .before .before .before .before .before .before .before .before .before .before .before .before .before .before .before .before .before .pre .1 .2) _ (c .before .before .before .before .before .before .before .before .before .before .before .before .before .before .before .before .before .before .before .before .before .before .before .before .at .ensures)) (same-head g old b n _ _ _ _ _ _ s h _ (c .before .before .before .before .before .before .before .before .before .before .before .before .before .before .before .before .before .before .before .before .before .before .before .before .before .before .before .before .before .before .before .pre .1 .2) _ (c .before .before .before .before .before .before .before .before .before .before .before .before .before .before .before .before .before .before .before .before .before .before .before .before .at .ensures) _ _ (sym (c .before .before .before .before .before .before .before .before .before .before .before .before .before .before .before .before .before .before .before .before .before .before .before .state .ensures) ∙ c .before .before .before .before .before .before .before .before .before .before .before .before .before .before .before .before .before .before .before .before .before .if1 .left ∙ to-is g old b n _ _ _ _ _ _ s h _ (c .before .before .before .before .before .before .before .before .before .before .before .before .before .before .before .before .before .before .before .before .before .before .before .before .before .before .before .before .before .before .before .pre .1 .1)) (sym (c .before .before .before .before .before .before .before .before .before .before .before .before .before .before .before .before .before .before .before .before .letter .ensures) ∙ c .before .before .before .before .before .before .before .before .before .before .before .before .before .before .before .before .before .before .if2 .left ∙ above-is g old b n _ _ _ _ _ _ s h _ (c .before .before .before .before .before .before .before .before .before .before .before .before .before .before .before .before .before .before .before .before .before .before .before .before .before .before .before .before .before .before .before .pre .1 .1))) (λ e. c .before .before .before .before .before .before .before .before .before .before .before .before .before .before .before .if3 .left (count-is g old b n _ _ _ _ _ _ s h _ (c .before .before .before .before .before .before .before .before .before .before .before .before .before .before .before .before .before .before .before .before .before .before .before .before .before .before .before .before .before .before .before .pre .1 .1) ∙ e)) (c .before .before .before .before .pass-states .ensures .0 g old b n s h pl ag whole (set-below g old b n _ _ _ _ _ _ s h _ (c .before .before .before .before .before .before .before .before .before .before .before .before .before .before .before .before .before .before .before .before .before .before .before .before .before .before .before .before .before .before .before .pre .1 .2) _ (c .before .before .before .before .before .before .before .before .before .before .before .before .before .before .before .before .before .before .before .before .before .before .before .before .at .ensures)) (past-two g old b n _ _ _ _ _ _ s h _ _ (c .before .before .before .before .before .before .before .before .before .before .before .before .before .before .before .before .before .before .before .before .before .before .before .before .before .before .before .before .before .before .before .args .union) _ past (c .before .before .before .before .before .before .before .before .before .before .before .before .before .before .before .before .before .before .before .before .before .before .before .before .before .before .before .before .before .before .before .pre .1 .2) _ (c .before .before .before .before .before .before .before .before .before .before .before .before .before .before .before .before .before .before .before .before .before .before .before .before .at .ensures) (c .before .before .before .before .before .before .before .before .before .before .before .before .before .before .before .before .before .still-late .result) (c .before .before .before .before .before .before .before .before .before .before .before .before .before .before .before .before .before .still-late .ensures) (set-of g old b n _ _ _ _ _ _ s h _ (c .before .before .before .before .before .before .before .before .before .before .before .before .before .before .before .before .before .before .before .before .before .before .before .before .before .before .before .before .before .before .before .pre .1 .2) _ (c .before .before .before .before .before .before .before .before .before .before .before .before .before .before .before .before .before .before .before .before .before .before .before .before .at .ensures)) (same-head g old b n _ _ _ _ _ _ s h _ (c .before .before .before .before .before .before .before .before .before .before .before .before .before .before .before .before .before .before .before .before .before .before .before .before .before .before .before .before .before .before .before .pre .1 .2) _ (c .before .before .before .before .before .before .before .before .before .before .before .before .before .before .before .before .before .before .before .before .before .before .before .before .at .ensures) _ _ (sym (c .before .before .before .before .before .before .before .before .before .before .before .before .before .before .before .before .before .before .before .before .before .before .before .state .ensures) ∙ c .before .before .before .before .before .before .before .before .before .before .before .before .before .before .before .before .before .before .before .before .before .if1 .left ∙ to-is g old b n _ _ _ _ _ _ s h _ (c .before .before .before .before .before .before .before .before .before .before .before .before .before .before .before .before .before .before .before .before .before .before .before .before .before .before .before .before .before .before .before .pre .1 .1)) (sym (c .before .before .before .before .before .before .before .before .before .before .before .before .before .before .before .before .before .before .before .before .letter .ensures) ∙ c .before .before .before .before .before .before .before .before .before .before .before .before .before .before .before .before .before .before .if2 .left ∙ above-is g old b n _ _ _ _ _ _ s h _ (c .before .before .before .before .before .before .before .before .before .before .before .before .before .before .before .before .before .before .before .before .before .before .before .before .before .before .before .before .before .before .before .pre .1 .1))) (λ e. c .before .before .before .before .before .before .before .before .before .before .before .before .before .before .before .if3 .left (count-is g old b n _ _ _ _ _ _ s h _ (c .before .before .before .before .before .before .before .before .before .before .before .before .before .before .before .before .before .before .before .before .before .before .before .before .before .before .before .before .before .before .before .pre .1 .1) ∙ e)))), c .before .before .before .before .pass-states .ensures .1)
 
 pub +pass-states+rules-after+rules-from+runs-with-spec : {M : Type 1} → statement M
 +pass-states+rules-after+rules-from+runs-with-spec =
@@ -750,6 +762,9 @@ pub +pass-states+rules-after+rules-from+runs-with-spec : {M : Type 1} → statem
     (runs-with-same-length t)
     (runs-with-same-length-2 t)
     (runs-with-returns-3 t)
+    (runs-with-add-is-blocked t)
+    (runs-with-shared-slice-read-is-blocked t)
+    (runs-with-is-blocked-requires t)
     (runs-with-returns-4 t)
     (runs-with-add-fresh-on t)
     (runs-with-shared-slice-read-fresh-on t)
