@@ -80,8 +80,10 @@ fn solving(games: &[Named], figures: &mut Figures) -> Vec<Compared> {
         let in_ms = clock::milliseconds(longest);
         println!("| {group}, {all} | {mean:.2} | {largest:.2} | {heap_mean:.2} | {heap_largest:.2} | {in_ms} |");
         if group == "heavy" {
-            figures.at_most("heavy games: geometric mean of library/heap".to_string(), heap_mean, 1.0);
-            figures.at_most("heavy games: largest library/heap".to_string(), heap_largest, 3.0);
+            for (solver, mean, largest) in [("lent", mean, largest), ("heap", heap_mean, heap_largest)] {
+                figures.at_most(format!("heavy games: geometric mean of library/{solver}"), mean, 1.0);
+                figures.at_most(format!("heavy games: largest library/{solver}"), largest, 3.0);
+            }
             figures.at_most("heavy games: longest solve, seconds".to_string(), longest, 5.0);
         }
     }

@@ -1,5 +1,5 @@
 -- A set of which a state has no entry on a letter is passed by no run.
-use Prim.Native.Nat.{ℕ, _+_, _*_, _%_, _^_, _<_, _≤_}
+use Prim.Native.Nat.{ℕ, _%_, _^_, _<_, _≤_}
 use native.Mathlib.Omega.{arith}
 use mathlib.Core.Path.{_≡_, refl, sym, ap, _∙_}
 use mathlib.Core.Logic.{⊎-elim}
@@ -19,7 +19,6 @@ use Rattle.rounds.specs.Enumeration.{stateRuns, flatMap-same}
 use Rattle.rounds.specs.Filled.{Stored}
 use Rattle.rounds.specs.InsertLaws.{noEntry}
 use Rattle.rounds.specs.MemberLaws.{has-mod, no-mod}
-use Rattle.rounds.specs.Scans.{Highest}
 use Rattle.walk.specs.JobLaws.{sets-scan}
 use Rattle.walk.proofs.HeadPlaces.{before-head, after-head, all-none}
 
