@@ -17,7 +17,7 @@ use Rattle.table.specs.Table.{Entry, entryOf, keyOf}
 use Rattle.table.specs.Pairwise.{Ascending, Pairwise}
 use Rattle.judge.specs.Worth.{entryOfHead}
 use Rattle.rounds.specs.Rounds.{add, nextRound, setsOf}
-use Rattle.rounds.specs.AddLaws.{Absent, add-old, add-there, add-in, add-ascending, same-key}
+use Rattle.rounds.specs.AddLaws.{Absent, add-old, add-there, add-in, add-ascending, same-key, same-list}
 use Rattle.rounds.specs.Candidates.{Gives}
 use Rattle.rounds.specs.EndsLaws.{setsOf-in, in-setsOf}
 use Rattle.rounds.specs.RoundLaws.{Born, AllRanged, next-is, next-ascending, key-of}
@@ -55,23 +55,6 @@ sub-length (x ∷ xs) (y ∷ ys) ax ay sub =
     (List·Memᴰ·cases-cons (sub z i))) in
     omega (arith, rest))
     (List·Memᴰ·cases-cons (sub x (List·Memᴰ·head refl)))
-
--- two ascending lists with the same members are one
-pub same-list : (xs ys : List Entry) → Ascending xs → Ascending ys → ((e : Entry) → e ∈ xs → e ∈ ys) → ((e : Entry) → e ∈ ys → e ∈ xs) → xs ≡ ys
-unfolding Pairwise
-same-list [] [] ax ay sub back = refl
-same-list [] (y ∷ ys) ax ay sub back = absurd (List·Memᴰ·not-nil (back y (List·Memᴰ·head refl)))
-same-list (x ∷ xs) [] ax ay sub back = absurd (List·Memᴰ·not-nil (sub x (List·Memᴰ·head refl)))
-same-list (x ∷ xs) (y ∷ ys) ax ay sub back =
-    let first : x ≡ y =
-    ⊎-elim (λ (e : x ≡ y). e)
-    (λ i. ⊎-elim (λ (f : y ≡ x). sym f) (λ j. absurd (omega (arith, ay .0 x i, ax .0 y j))) (List·Memᴰ·cases-cons (back y (List·Memᴰ·head refl))))
-    (List·Memᴰ·cases-cons (sub x (List·Memᴰ·head refl))) in
-    let rest : xs ≡ ys =
-    same-list xs ys (ax .1) (ay .1)
-    (λ z i. ⊎-elim (λ (f : z ≡ y). absurd (omega (arith, ax .0 z i, ap keyOf f, ap keyOf first))) (λ j. j) (List·Memᴰ·cases-cons (sub z (List·Memᴰ·tail i))))
-    (λ z i. ⊎-elim (λ (f : z ≡ x). absurd (omega (arith, ay .0 z i, ap keyOf f, ap keyOf first))) (λ j. j) (List·Memᴰ·cases-cons (back z (List·Memᴰ·tail i)))) in
-    ap (λ (w : Entry). w ∷ xs) first ∙ ap (λ (ws : List Entry). y ∷ ws) rest
 
 -- a set of a head, and its entry
 pub head-entry : (es : List Entry) (q a z : ℕ) → Head es q a z → (e : Entry) × e ∈ es × (e .state ≡ q) × (e .letter ≡ a) × (e .set ≡ z)

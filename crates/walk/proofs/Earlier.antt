@@ -114,7 +114,7 @@ module _ (g : PushdownGame) (old : List Entry) (birthdate n : ℕ) (job : Job) (
         (λ some.
         let known = same some in
         let m =
-        older-at birthdate old n (job .count) work (h .stands .stored) late (past (omega (arith, known .0)) .0) i l
+        older-at birthdate old (h .stands .room) (job .count) work (h .stands .stored) late (past (omega (arith, known .0)) .0) i l
         (subst (λ (x : EntryWords). x .first < late) e (known .1))
         in (
           known .0,

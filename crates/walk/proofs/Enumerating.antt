@@ -1,6 +1,6 @@
 -- The turns of an enumeration, over what it enters with and leaves: a part that the memo names, a part that is finished and
 -- noted, and entries taken one after another.
-use Prim.Native.Nat.{ℕ, _+_, _^_, _<_}
+use Prim.Native.Nat.{ℕ, _+_, _/_, _^_, _<_, _≤_}
 use native.Mathlib.Omega.{arith}
 use mathlib.Core.Path.{_≡_, ap, _∙_}
 use mathlib.Core.Logic.{_⊎_}
@@ -17,7 +17,8 @@ use Rattle.table.specs.WordLaws.{word-entry}
 use Rattle.rounds.specs.InsertLaws.{noEntry}
 use Rattle.walk.specs.Memo.{lineAt}
 use Rattle.walk.specs.Jobs.{Stands, Entered, Finished, Whole, subRuns, subEntries, tagOf}
-use Rattle.walk.specs.JobLaws.{grown-from}
+use Rattle.walk.specs.AlikeLaws.{full-any, over-full}
+use Rattle.walk.specs.JobLaws.{grown-from, from-end}
 use Rattle.walk.specs.MemoLaws.{memo-hit, memo-kept, memo-stored}
 use Rattle.walk.specs.declared.runs.Job.{Job}
 
@@ -63,27 +64,49 @@ module _ (g : PushdownGame) (old : List Entry) (birthdate n : ℕ) (job : Job) (
               (h .stands .letter) l (f .memoed) (rw same (grown-held n es s)) lines;
         }
 
-  -- Entries taken one after another, each giving a list: the table grown so far, and what is still to come.
-  pub record Scanning (f : Entry → List ℕ) (s : Growing) (i : ℕ) (words : List ℕ) (count : ℕ) (memo : List ℕ) : Type 0 where
+  -- Elements of a list taken one after another, each giving a list: the table grown so far, and what is still to come.
+  pub record Taking {A : Type 0} (xs : List A) (f : A → List ℕ) (s : Growing) (i : ℕ) (words : List ℕ) (count : ℕ) (memo : List ℕ) : Type 0 where
     pub now : Growing
     pub entered : Entered g old birthdate n job rules work words count memo now
     pub kept : (es : List Entry) → HeldBy n es s → HeldBy n es now
-    pub rest : growing n (map given (flatMap f old)) s ≡ growing n (map given (flatMap f (drop i old))) now
+    pub rest : growing n (map given (flatMap f xs)) s ≡ growing n (map given (flatMap f (drop i xs))) now
 
-  module _ (f : Entry → List ℕ) (s : Growing) (i : ℕ) (words : List ℕ) (count : ℕ) (memo : List ℕ) (c : Scanning f s i words count memo) where
-    pub scan-next : i < job .count → (words′ : List ℕ) (count′ : ℕ) (memo′ : List ℕ)
-        → Finished g old birthdate n (map given (f (getD old i noEntry))) (c .now) words′ count′ memo′ → Scanning f s (i + 1) words′ count′ memo′
-    scan-next l words′ count′ memo′ d =
-        let es = map given (f (getD old i noEntry)) in
+  module _ {A : Type 0} (xs : List A) (f : A → List ℕ) (s : Growing) (i : ℕ) (words : List ℕ) (count : ℕ) (memo : List ℕ) (c : Taking xs f s i words count memo) where
+    pub take-next : (d : A) → i < length xs → (words′ : List ℕ) (count′ : ℕ) (memo′ : List ℕ)
+        → Finished g old birthdate n (map given (f (getD xs i d))) (c .now) words′ count′ memo′ → Taking xs f s (i + 1) words′ count′ memo′
+    take-next d l words′ count′ memo′ e =
+        let es = map given (f (getD xs i d)) in
         record {
           now = growing n es (c .now);
-          entered = goes-on words count memo (c .now) es words′ count′ memo′ (c .entered) d;
+          entered = goes-on words count memo (c .now) es words′ count′ memo′ (c .entered) e;
           kept = λ fs held. all-stay n es fs (c .now) (c .kept fs held);
-          rest = c .rest ∙ grown-from n given f noEntry i old (c .now) (omega (arith, c .entered .stands .stored .counted));
+          rest = c .rest ∙ grown-from n given f d i xs (c .now) l;
         }
 
+    -- none is left to take, or the table is full
+    pub all-taken : length xs ≤ i → Finished g old birthdate n (map given (flatMap f xs)) s words count memo
+    unfolding growing
+    all-taken l =
+        let e = c .rest ∙ ap (λ (es : List ℕ). growing n (map given es) (c .now)) (from-end f i xs l) in
+        record { filled = rw e (c .entered .filled); memoed = rw e (c .entered .memoed) }
+
+    pub none-fits : length words / 3 < count → Finished g old birthdate n (map given (flatMap f xs)) s words count memo
+    none-fits over =
+        let e = c .rest ∙ full-any n (map given (flatMap f (drop i xs))) (c .now) (over-full n words count (c .now) (c .entered .filled) over) in
+        record { filled = rw e (c .entered .filled); memoed = rw e (c .entered .memoed) }
+
+  -- the entries of the old round
+  abbrev pub Scanning : (Entry → List ℕ) → Growing → ℕ → List ℕ → ℕ → List ℕ → Type 0
+  Scanning f s i words count memo = Taking old f s i words count memo
+
+  pub scan-next : (f : Entry → List ℕ) (s : Growing) (i : ℕ) (words : List ℕ) (count : ℕ) (memo : List ℕ) (c : Scanning f s i words count memo)
+      → i < job .count → (words′ : List ℕ) (count′ : ℕ) (memo′ : List ℕ)
+      → Finished g old birthdate n (map given (f (getD old i noEntry))) (c .now) words′ count′ memo′ → Scanning f s (i + 1) words′ count′ memo′
+  scan-next f s i words count memo c l words′ count′ memo′ d =
+      take-next old f s i words count memo c noEntry (omega (arith, c .entered .stands .stored .counted)) words′ count′ memo′ d
+
   -- No rule is left: the union's entry is added.
-  module _ (u : ℕ) (some : 0 < u) (small : u < 2 ^ 32) (stands : Stands g old birthdate n job rules work) where
+  module _ (u : ℕ) (some : 0 < u) (small : u < 2 ^ 32) (stands : Stands g old birthdate job rules work) where
     entry-is : entryOf (job .first) u (job .field) ≡ given u
     entry-is =
         ap (λ (w : ℕ). entryOf w u (job .field)) (stands .first)

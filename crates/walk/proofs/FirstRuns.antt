@@ -67,7 +67,7 @@ module _ (g : PushdownGame) (old : List Entry) (birthdate n : ℕ) (job : Job) (
       map (entryAt (job .state) (job .letter) birthdate (job .field)) (restRuns g table (rulesBetween g (job .state) (job .letter) r (job .end)) 0)
 
   -- from rule r on it is the next one
-  itself : Whole g job r → NextRule rules (job .end) r (job .state) (job .letter) r
+  pub itself : Whole g job r → NextRule rules (job .end) r (job .state) (job .letter) r
   unfolding ofHead
   itself w =
       record {

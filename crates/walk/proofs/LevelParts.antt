@@ -137,7 +137,7 @@ module _ (g : PushdownGame) (old : List Entry) (birthdate n : ℕ) (job : Job) (
         t
 
     pub set-at : (k : ℕ) → k < job .count → getD work (k * 3 + 1) 0 ≡ getD old k noEntry .set
-    set-at k l = ap (λ (e : Entry). e .set) (entry-at n (job .count) work old (h .stands .stored) k l)
+    set-at k l = ap (λ (e : Entry). e .set) (entry-at (h .stands .room) (job .count) work old (h .stands .stored) k l)
 
     -- an entry that the memo has gives what is held
     pub memo-held : Whole g job r → r < length (g .rules) → (v : Level) (k line : ℕ) → k < job .count
@@ -179,7 +179,7 @@ module _ (g : PushdownGame) (old : List Entry) (birthdate n : ℕ) (job : Job) (
     older-held fresh aging v f past k l less settled none =
         let x = getD old k noEntry in
         let known = past (omega arith) in
-        let m = older-at birthdate old n (job .count) work (h .stands .stored) (v .late) (known .0) k l less in
+        let m = older-at birthdate old (h .stands .room) (job .count) work (h .stands .stored) (v .late) (known .0) k l less in
         ⊎-elim
         (λ (t : entryOfHead (v .highest) letter x ≡ true).
         subst (λ (es : List Entry). HeldBy n es now) (sym (gives-part v x t))

@@ -17,6 +17,7 @@ use Rattle.rounds.specs.Rounds.{entryAt}
 use Rattle.rounds.specs.Growing.{Growing, growing}
 use Rattle.rounds.specs.GrowingLaws.{HeldBy, growing-append, held-passed, all-stay, grown-held}
 use Rattle.rounds.specs.InsertLaws.{noEntry}
+use Rattle.walk.specs.AlikeLaws.{full-any}
 use Rattle.walk.specs.JobLaws.{passOf, from-place, from-end}
 use Rattle.walk.specs.declared.runs.Job.{Job}
 
@@ -85,6 +86,12 @@ module _ (g : PushdownGame) (old : List Entry) (birthdate n : ℕ) (job : Job) (
   unfoldable pub after : List Level → Growing → Growing
   after [] s = s
   after (v ∷ vs) s = after vs (done v s)
+
+  -- a full table stays as it is
+  pub after-full : (vs : List Level) (s : Growing) → s .full ≡ true → after vs s ≡ s
+  unfolding after
+  after-full [] s t = refl
+  after-full (v ∷ vs) s t = ap (after vs) (full-any n (flatMap (givesAt v) (drop (v .next) old)) s t) ∙ after-full vs s t
 
   -- what the entries before the next one give is held at each level, once those above it are done
   abbrev pub Taken : Level → Growing → Type 0

@@ -1,10 +1,13 @@
 pub mod Lines
 pub mod PlacesKept
+pub mod Listing
+pub mod Writing
 pub mod Enumerating
 pub mod HeadPlaces
 pub mod Blocking
 pub mod Parts
 pub mod Turns
+pub mod ListTurns
 pub mod Earlier
 pub mod Freshness
 pub mod Depth
@@ -15,4 +18,5 @@ pub mod Skipping
 pub mod Rounding
 pub mod FirstRuns
 pub mod RoundTurns
+pub mod Alone
 pub mod Nest

@@ -1,4 +1,4 @@
--- The turns of a round's nest of loops: one run more, one job more, one head more, and the whole round; with what is kept of the past
+-- The turns of a round's nest of loops: one run more, one job more, one turn more, and the whole round; with what is kept of the past
 -- for each.
 use Prim.Native.Nat.{ℕ, _+_, _*_, _/_, _%_, _<_, _≤_}
 use native.Mathlib.Omega.{arith}
@@ -23,31 +23,45 @@ use Rattle.rounds.specs.Filled.{Stored, Filled}
 use Rattle.rounds.specs.Scans.{rulesBetween}
 use Rattle.rounds.specs.StoredRows.{entry-at}
 use Rattle.rounds.specs.InsertLaws.{noEntry, in-getD}
-use Rattle.walk.specs.Jobs.{Entered, Finished, Whole}
+use Rattle.walk.specs.Jobs.{Stands, Entered, Finished, Whole}
+use Rattle.walk.specs.Lists.{Listed}
+use Rattle.walk.specs.AlikeLaws.{filled-alike}
 use Rattle.walk.specs.Places.{Placing}
 use Rattle.walk.specs.Past.{older, lateOf, Past, Marked, Aging}
 use Rattle.walk.specs.PastLaws.{older-at}
 use Rattle.walk.specs.RoundJobs.{Blank, RunsEnd}
 use Rattle.walk.specs.RoundJobLaws.{jobAt}
 use Rattle.walk.specs.declared.runs.Job.{Job}
-use Rattle.walk.proofs.Rounding.{Entries, runAt, runsFrom, jobEntries, rulesFrom, headsFrom, Setting, Known, Adds, Turning, goes-on, ends, passes}
-use Rattle.walk.proofs.RoundTurns.{AtRule, blank-memoed, runs-split, runs-ended, runs-aged, rules-split, past-split, heads-split, heads-all, job-stands, job-aging, job-whole, job-past}
+use Rattle.walk.proofs.Rounding.{Entries, runAt, runsFrom, jobEntries, rulesFrom, turnAt, turnsFrom, Setting, Known, Rightly, Adds, Turning, goes-on, ends, passes}
+use Rattle.walk.proofs.RoundTurns.{AtRule, blank-memoed, runs-split, runs-ended, runs-aged, rules-split, past-split, turns-split, turns-in-round, turns-all, job-stands, job-aging, job-whole, job-past}
 
 module _ (sizes : Sizes) (rules places fresh work : List ℕ) (old birthdate late : ℕ) where
   module _ (born : birthdate < 65536) (p a r : ℕ) (job : Job) (runs : ℕ) (at : AtRule sizes rules fresh old birthdate p a r job runs) where
+    -- the job's later rules are listed
+    pub list-turn : {lists spans lists′ spans′ : List ℕ} → Rightly sizes rules places fresh work old birthdate late lists spans
+        → ((g : PushdownGame) (es : List Entry) (b : ℕ) → Stands g es b job rules work → Placing g work (job .count) places → Aging g es b job fresh
+        → Listed g es lists spans → Listed g es lists′ spans′)
+        → Rightly sizes rules places fresh work old birthdate late lists′ spans′
+    list-turn right promise g es n h marked =
+        promise g es birthdate
+        (job-stands g es n sizes rules places work old h birthdate fresh p a r job runs at born)
+        (rw (ap (λ (x : Job). x .count) (at .made)) (h .placing))
+        (job-aging g es n sizes rules places work old h birthdate fresh p a r job runs at marked)
+        (right g es n h marked)
+
     -- what a run promises
-    abbrev pub RunAdds : ℕ → List ℕ → ℕ → List ℕ → List ℕ → ℕ → List ℕ → Type 0
-    RunAdds i words count memo words′ count′ memo′ =
+    abbrev pub RunAdds : List ℕ → List ℕ → ℕ → List ℕ → ℕ → List ℕ → List ℕ → ℕ → List ℕ → Type 0
+    RunAdds lists spans i words count memo words′ count′ memo′ =
         (g : PushdownGame) (es : List Entry) (b n : ℕ) (s : Growing) → Entered g es b n job rules work words count memo s
-        → Placing g work (job .count) places → Aging g es b job fresh → Whole g job r
+        → Placing g work (job .count) places → Aging g es b job fresh → Listed g es lists spans → Whole g job r
         → Past b n late
         (map (entryAt (job .state) (job .letter) b (job .field)) (restRuns g (older b es) (rulesBetween g (job .state) (job .letter) r (job .end)) 0)) s
         → Finished g es b n (runAt b job r i g es) s words′ count′ memo′
 
-    run-adds : (i : ℕ) {words : List ℕ} {count : ℕ} {memo words′ : List ℕ} {count′ : ℕ} {memo′ : List ℕ}
-        → RunAdds i words count memo words′ count′ memo′
+    run-adds : (lists spans : List ℕ) → Rightly sizes rules places fresh work old birthdate late lists spans → (i : ℕ) {words : List ℕ} {count : ℕ} {memo words′ : List ℕ} {count′ : ℕ} {memo′ : List ℕ}
+        → RunAdds lists spans i words count memo words′ count′ memo′
         → Adds sizes rules places fresh work old birthdate late (runAt birthdate job r i) (jobEntries birthdate p a r) words count memo words′ count′ memo′
-    run-adds i promise =
+    run-adds lists spans right i promise =
         record {
           adds =
               λ g es n s h f m k.
@@ -55,20 +69,21 @@ module _ (sizes : Sizes) (rules places fresh work : List ℕ) (old birthdate lat
               (record { stands = job-stands g es n sizes rules places work old h birthdate fresh p a r job runs at born; filled = f; memoed = m })
               (rw (ap (λ (x : Job). x .count) (at .made)) (h .placing))
               (job-aging g es n sizes rules places work old h birthdate fresh p a r job runs at (k .marked))
+              (right g es n h (k .marked))
               (job-whole g es n sizes rules places work old h birthdate fresh p a r job runs at)
               (job-past g es n sizes rules places work old h birthdate fresh p a r job runs at late s (k .past));
         }
 
     -- one run more
-    pub run-turn : (i : ℕ) {words₀ : List ℕ} {count₀ : ℕ} {memo₀ words : List ℕ} {count : ℕ} {memo words′ : List ℕ} {count′ : ℕ} {memo′ : List ℕ}
+    pub run-turn : (lists spans : List ℕ) → Rightly sizes rules places fresh work old birthdate late lists spans → (i : ℕ) {words₀ : List ℕ} {count₀ : ℕ} {memo₀ words : List ℕ} {count : ℕ} {memo words′ : List ℕ} {count′ : ℕ} {memo′ : List ℕ}
         → Turning sizes rules places fresh work old birthdate late (runsFrom birthdate job r runs 0) (runsFrom birthdate job r runs i) (jobEntries birthdate p a r) (jobEntries birthdate p a r) words₀ count₀ memo₀ words count memo
-        → i < runs → RunAdds i words count memo words′ count′ memo′
+        → i < runs → RunAdds lists spans i words count memo words′ count′ memo′
         → Turning sizes rules places fresh work old birthdate late (runsFrom birthdate job r runs 0) (runsFrom birthdate job r runs (i + 1)) (jobEntries birthdate p a r) (jobEntries birthdate p a r) words₀ count₀ memo₀ words′ count′ memo′
-    run-turn i t l promise =
+    run-turn lists spans right i t l promise =
         goes-on sizes rules places fresh work old birthdate late t (runAt birthdate job r i) (runsFrom birthdate job r runs (i + 1))
         (λ g es n h. runs-split birthdate job r runs i l g es)
         (jobEntries birthdate p a r) (jobEntries birthdate p a r) (λ g es n h e m. m) (λ g es n h e m. m)
-        (run-adds i promise)
+        (run-adds lists spans right i promise)
 
     -- no run more, by where they end
     pub runs-done : (i : ℕ) {words₀ : List ℕ} {count₀ : ℕ} {memo₀ words : List ℕ} {count : ℕ} {memo : List ℕ}
@@ -88,10 +103,10 @@ module _ (sizes : Sizes) (rules places fresh work : List ℕ) (old birthdate lat
         o
 
     -- one job more
-    pub job-turn : {words₀ : List ℕ} {count₀ : ℕ} {memo₀ words : List ℕ} {count : ℕ} {memo words′ : List ℕ} {count′ : ℕ} {memo′ : List ℕ}
-        → Turning sizes rules places fresh work old birthdate late (rulesFrom birthdate p a 0) (rulesFrom birthdate p a r) (rulesFrom birthdate p a 0) (rulesFrom birthdate p a r) words₀ count₀ memo₀ words count memo
+    pub job-turn : {whole kept : Entries} {words₀ : List ℕ} {count₀ : ℕ} {memo₀ words : List ℕ} {count : ℕ} {memo words′ : List ℕ} {count′ : ℕ} {memo′ : List ℕ}
+        → Turning sizes rules places fresh work old birthdate late whole (rulesFrom birthdate p a r) kept (rulesFrom birthdate p a r) words₀ count₀ memo₀ words count memo
         → Adds sizes rules places fresh work old birthdate late (runsFrom birthdate job r runs 0) (jobEntries birthdate p a r) words count memo words′ count′ memo′
-        → Turning sizes rules places fresh work old birthdate late (rulesFrom birthdate p a 0) (rulesFrom birthdate p a (job .end)) (rulesFrom birthdate p a 0) (rulesFrom birthdate p a (job .end)) words₀ count₀ memo₀ words′ count′ memo′
+        → Turning sizes rules places fresh work old birthdate late whole (rulesFrom birthdate p a (job .end)) kept (rulesFrom birthdate p a (job .end)) words₀ count₀ memo₀ words′ count′ memo′
     job-turn t d =
         goes-on sizes rules places fresh work old birthdate late t (runsFrom birthdate job r runs 0) (rulesFrom birthdate p a (job .end))
         (λ g es n h. rules-split g es n sizes rules places work old h birthdate fresh p a r job runs at)
@@ -104,50 +119,55 @@ module _ (sizes : Sizes) (rules places fresh work : List ℕ) (old birthdate lat
         (Memᴰ·append-right (jobAt g (older birthdate es) birthdate p a r) m))
         d
 
-  -- the heads from one on
-  abbrev headsOf : ℕ → Entries
-  headsOf head = headsFrom birthdate (sizes .letters) (sizes .control * sizes .letters) head
+  -- the turns from one on
+  abbrev heads : ℕ
+  heads = sizes .control * sizes .letters
 
-  -- one head more
-  pub head-turn : (head : ℕ) {words₀ : List ℕ} {count₀ : ℕ} {memo₀ words : List ℕ} {count : ℕ} {memo words′ : List ℕ} {count′ : ℕ} {memo′ : List ℕ}
-      → Turning sizes rules places fresh work old birthdate late (headsOf 0) (headsOf head) (headsOf 0) (headsOf head) words₀ count₀ memo₀ words count memo → head < sizes .control * sizes .letters
-      → Adds sizes rules places fresh work old birthdate late (rulesFrom birthdate (head / sizes .letters) (head % sizes .letters) 0) (rulesFrom birthdate (head / sizes .letters) (head % sizes .letters) 0) words count memo words′ count′ memo′
-      → Turning sizes rules places fresh work old birthdate late (headsOf 0) (headsOf (head + 1)) (headsOf 0) (headsOf (head + 1)) words₀ count₀ memo₀ words′ count′ memo′
-  head-turn head t l d =
-      goes-on sizes rules places fresh work old birthdate late t (rulesFrom birthdate (head / sizes .letters) (head % sizes .letters) 0) (headsOf (head + 1))
+  abbrev turnsOf : ℕ → Entries
+  turnsOf turn = turnsFrom birthdate (sizes .letters) heads turn
+
+  abbrev turnOf : ℕ → Entries
+  turnOf turn = turnAt birthdate (sizes .letters) heads turn
+
+  -- one turn more
+  pub head-turn : (turn : ℕ) {words₀ : List ℕ} {count₀ : ℕ} {memo₀ words : List ℕ} {count : ℕ} {memo words′ : List ℕ} {count′ : ℕ} {memo′ : List ℕ}
+      → Turning sizes rules places fresh work old birthdate late (turnsOf 0) (turnsOf turn) (turnsOf 0) (turnsOf turn) words₀ count₀ memo₀ words count memo → turn < heads * 2
+      → Adds sizes rules places fresh work old birthdate late (turnOf turn) (turnOf turn) words count memo words′ count′ memo′
+      → Turning sizes rules places fresh work old birthdate late (turnsOf 0) (turnsOf (turn + 1)) (turnsOf 0) (turnsOf (turn + 1)) words₀ count₀ memo₀ words′ count′ memo′
+  head-turn turn t l d =
+      goes-on sizes rules places fresh work old birthdate late t (turnOf turn) (turnsOf (turn + 1))
       (λ g es n h. split g es n h es)
-      (rulesFrom birthdate (head / sizes .letters) (head % sizes .letters) 0) (headsOf (head + 1))
+      (turnOf turn) (turnsOf (turn + 1))
       (λ g es n h e m.
-      subst (λ (x : List Entry). e ∈ x) (sym (split g es n h (older birthdate es))) (Memᴰ·append-left (headsOf (head + 1) g (older birthdate es)) m))
+      subst (λ (x : List Entry). e ∈ x) (sym (split g es n h (older birthdate es))) (Memᴰ·append-left (turnsOf (turn + 1) g (older birthdate es)) m))
       (λ g es n h e m.
       subst (λ (x : List Entry). e ∈ x) (sym (split g es n h (older birthdate es)))
-      (Memᴰ·append-right (rulesFrom birthdate (head / sizes .letters) (head % sizes .letters) 0 g (older birthdate es)) m))
+      (Memᴰ·append-right (turnOf turn g (older birthdate es)) m))
       d
     where
       split : (g : PushdownGame) (es : List Entry) (n : ℕ) → Setting g es n sizes rules places work old → (table : List Entry)
-          → headsOf head g table ≡ rulesFrom birthdate (head / sizes .letters) (head % sizes .letters) 0 g table ++ headsOf (head + 1) g table
-      split g es n h table = heads-split g es n sizes rules places work old h birthdate (sizes .letters) (sizes .control * sizes .letters) head refl refl table l
+          → turnsOf turn g table ≡ turnOf turn g table ++ turnsOf (turn + 1) g table
+      split g es n h table = turns-split g es n sizes rules places work old h birthdate (sizes .letters) heads turn refl refl table l
 
   -- the whole round
   pub round-filled : {words : List ℕ} {memo words′ : List ℕ} {count′ : ℕ} {memo′ : List ℕ}
-      → Adds sizes rules places fresh work old birthdate late (headsOf 0) (headsOf 0) words old memo words′ count′ memo′
+      → Adds sizes rules places fresh work old birthdate late (turnsOf 0) (turnsOf 0) words old memo words′ count′ memo′
       → (g : PushdownGame) (es : List Entry) (n : ℕ) → Held g sizes rules → Good g → AllRanged g es → Stored n work old es
       → Stored n words old es → (1 < birthdate → HeldBy n (candidates g (older birthdate es) birthdate) (partly es))
       → late ≡ lateOf birthdate → Marked work fresh late old → Placing g work old places → Blank memo
       → Filled n words′ count′ (growing n (candidates g es birthdate) (partly es))
   round-filled {words} {memo} d g es n held good ranged stored table past is marked placing blank =
       let h : Setting g es n sizes rules places work old = record { held = held; good = good; ranged = ranged; stored = stored; placing = placing } in
-      let all = heads-all g es n sizes rules places work old h birthdate (sizes .letters) (sizes .control * sizes .letters) 0 refl refl in
-      let known : Known es birthdate n fresh late (headsOf 0 g (older birthdate es)) (partly es) =
+      let known : Known es birthdate n fresh late (turnsOf 0 g (older birthdate es)) (partly es) =
       record {
         marked = noted g es n held good ranged stored is marked;
         past =
             λ some.
-            (is, subst (λ (l : List Entry). HeldBy n l (partly es)) (sym (all (older birthdate es))) (past (omega (arith, is))));
+            (is, λ e m. past (omega (arith, is)) e (turns-in-round g es n sizes rules places work old h birthdate (sizes .letters) heads refl refl (older birthdate es) e m));
       }
       in
       let f = d .adds g es n (partly es) h (inr (refl, table)) (blank-memoed g es birthdate n memo (partly es) blank) known .filled in
-      rw (all es) at f
+      filled-alike n (turns-all g es n sizes rules places work old h birthdate (sizes .letters) heads refl refl) (partly es) (inr (refl, table)) _ _ f
     where
       -- every entry is older, or noted
       noted : (g : PushdownGame) (es : List Entry) (n : ℕ) → Held g sizes rules → Good g → AllRanged g es → Stored n work old es

@@ -42,10 +42,10 @@ union-some n u x l some =
 
 module _ (g : PushdownGame) (job : Job) where
   -- the job is that of the next rule
-  pub whole : (old : List Entry) (birthdate n : ℕ) (rules work : List ℕ) → Stands g old birthdate n job rules work → (from r : ℕ)
+  pub whole : (old : List Entry) (birthdate : ℕ) (rules work : List ℕ) → Stands g old birthdate job rules work → (from r : ℕ)
       → Late g job from → from ≤ r → r < job .end → ofHead (job .state) (job .letter) (getD (g .rules) r noRule) ≡ true → Whole g job r
   unfolding endOf fieldOf
-  whole old birthdate n rules work stands from r late h l heads =
+  whole old birthdate rules work stands from r late h l heads =
       ⊎-elim
       (λ o. record { ends = rw (o .0) (o .1); named = rw (o .0) (o .2); heads = heads })
       (λ o.

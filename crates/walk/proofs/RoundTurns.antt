@@ -1,4 +1,4 @@
--- What the turns of a round hand on: the job of a rule and its runs, the rules of a head, the heads.
+-- What the turns of a round hand on: the job of a rule and its runs, the rules of a head, the turns of heads.
 use Prim.Native.Nat.{ℕ, zero, suc, _+_, _*_, _-_, _/_, _%_, _<_, _≤_}
 use native.Mathlib.Omega.{arith}
 use native.Mathlib.Nat.{mod-lt, div-lt-iff-lt-mul}
@@ -8,7 +8,7 @@ use mathlib.Core.Logic.{_⊎_, inl, inr, ⊎-elim}
 use mathlib.Core.Bool.{Bool, true, false, cond}
 use mathlib.Core.List.{List, [], _∷_, _++_, map, flatMap, List·Memᴰ·tail}
 use lib.ListN.{length, getD, drop, replicate}
-use lib.Dec.{eqb, ltb}
+use lib.Dec.{eqb, ltb, leb}
 use borrow.Author.Tests.{ne-eqb, eqb-true, eqb-false, ltb-true, ltb-false}
 use Rattle.game.specs.Sets.{has, union}
 use Rattle.game.specs.Game.{Rule, PushdownGame, ofHead}
@@ -21,7 +21,7 @@ use Rattle.game.specs.Win.{isAbelard}
 use Rattle.game.specs.declared.game.Sizes.{Sizes}
 use Rattle.table.specs.Table.{Entry}
 use Rattle.judge.specs.Worth.{entryOfHead}
-use Rattle.rounds.specs.Rounds.{below, entryAt, headCandidates, candidates}
+use Rattle.rounds.specs.Rounds.{below, entryAt, candidates}
 use Rattle.rounds.specs.Enumeration.{restRuns, map-flatMap}
 use Rattle.rounds.specs.Growing.{Growing}
 use Rattle.walk.specs.Jobs.{Able, Stands, Whole, Memoed, endOf, fieldOf, subRuns, beginRuns, tagOf}
@@ -30,13 +30,16 @@ use Rattle.walk.specs.Past.{older, Past, Settled, SettledFrom, Aging}
 use Rattle.walk.specs.PastLaws.{past-same, rest-aged}
 use Rattle.walk.specs.Places.{PlacedHead, PlacedTo, Placing}
 use Rattle.rounds.specs.InsertLaws.{noEntry, getD-in}
-use Rattle.walk.specs.RoundJobs.{jobOf, runsOf, runRuns, Blank, RunsStart, RunsEnd}
-use Rattle.walk.specs.RoundJobLaws.{jobsFrom, jobAt, jobs-are, next-same, none-after, job-first, runs-by-place, from-number, from-last, pairs-are, run-writes}
+use Rattle.walk.specs.RoundJobs.{jobOf, runsOf, runRuns, Blank, RunsStart, RunsEnd, First}
+use Rattle.walk.specs.AlikeLaws.{Alike}
+use Rattle.walk.specs.TurnLaws.{agrees, turnGives, turns-in, turns-alike}
+use Rattle.walk.specs.RoundJobLaws.{jobsFrom, jobAt, jobs-are, next-same, none-after, job-first, runs-by-place, from-number, from-last, run-writes}
 use Rattle.walk.specs.declared.runs.Job.{Job}
 use Rattle.walk.proofs.HeadPlaces.{before-head, after-head}
 use Rattle.rounds.specs.ScanLaws.{rule-at, head-at}
-use Rattle.walk.proofs.Rounding.{runAt, runsFrom, rulesFrom, headsFrom, Setting}
+use Rattle.walk.proofs.Rounding.{runAt, runsFrom, rulesFrom, turnAt, turnsFrom, Setting}
 use Rattle.walk.proofs.FirstRuns.{runs-written, runs-popped}
+use Rattle.walk.proofs.Listing.{zero-at}
 
 -- a blank memo names nothing
 pub blank-memoed : (g : PushdownGame) (es : List Entry) (birthdate n : ℕ) (memo : List ℕ) (s : Growing) → Blank memo → Memoed g es birthdate n memo s
@@ -44,13 +47,8 @@ unfolding tagOf
 blank-memoed g es birthdate n memo s blank k p a r lp la lr e = absurd (omega (arith, blank k))
 
 -- zeros are blank
-zeros : (n i : ℕ) → getD (replicate {A = ℕ} n 0) i 0 ≡ 0
-zeros zero i = refl
-zeros (suc n) zero = refl
-zeros (suc n) (suc i) = zeros n i
-
 pub zeros-blank : (n : ℕ) → Blank (replicate n 0)
-zeros-blank n k = zeros n (k * 3)
+zeros-blank n k = zero-at n (k * 3)
 
 -- the runs of a job from place i on
 pub runs-split : (birthdate : ℕ) (job : Job) (r runs i : ℕ) → i < runs → (g : PushdownGame) (es : List Entry)
@@ -174,11 +172,12 @@ module _ (g : PushdownGame) (es : List Entry) (n : ℕ) (sizes : Sizes) (rules p
         ⊎-elim (λ (t : isAbelard g p ≡ true). rw t (omega (arith, rules-are, at .within))) (λ (t : isAbelard g p ≡ false). rw t (omega arith))
         (test (isAbelard g p))
 
-    pub job-stands : birthdate < 65536 → Stands g es birthdate n job rules work
+    pub job-stands : birthdate < 65536 → Stands g es birthdate job rules work
     unfolding endOf fieldOf
     job-stands born =
         record {
           slack = h .held .slack;
+          room = n;
           written = h .held .stands;
           ranged = h .good .ranged;
           stored = rw (ap (λ (x : Job). x .count) (at .made)) (h .stored);
@@ -333,33 +332,52 @@ module _ (g : PushdownGame) (es : List Entry) (n : ℕ) (sizes : Sizes) (rules p
       → e ∈ rulesFrom birthdate p a r g (older birthdate es) → e ∈ rulesFrom birthdate p a from g (older birthdate es)
   past-next p a from r next e m = subst (λ (l : List Entry). e ∈ l) (sym (rules-next (older birthdate es) p a from r next)) m
 
-  pub rules-none : (p a r : ℕ) → sizes .rulecount ≤ r → rulesFrom birthdate p a r g es ≡ []
+  pub rules-none : (table : List Entry) (p a r : ℕ) → sizes .rulecount ≤ r → rulesFrom birthdate p a r g table ≡ []
   unfolding rulesFrom
-  rules-none p a r l = none-after g es birthdate p a rules (h .held .slack) (h .held .stands) r (omega (arith, rules-are))
+  rules-none table p a r l = none-after g table birthdate p a rules (h .held .slack) (h .held .stands) r (omega (arith, rules-are))
 
-  module _ (letters heads head : ℕ) (so-wide : letters ≡ sizes .letters) (so-many : heads ≡ sizes .control * sizes .letters) where
-    -- the heads from one on
-    pub heads-split : (table : List Entry) → head < heads
-        → headsFrom birthdate letters heads head g table
-        ≡ rulesFrom birthdate (head / letters) (head % letters) 0 g table ++ headsFrom birthdate letters heads (head + 1) g table
-    unfolding headsFrom rulesFrom
-    heads-split table l =
-        let some : 0 < letters = omega (arith, letters-are, h .good .ranged .bottom) in
-        let low : head / letters < g .control = div-lt-iff-lt-mul some .1 (rw (so-wide, ← control-is, ← so-many) l) in
-        let high : head % letters < g .letters = omega (arith, mod-lt head some, letters-are) in
-        let f : ℕ → List Entry = λ k. headCandidates g table birthdate (k / letters) (k % letters) in
-        rw (add-one head)
-        (from-number f head heads l
-        ∙ ap (_++ flatMap f (drop (suc head) (below heads)))
-        (jobs-are g table birthdate (head / letters) (head % letters) (h .good) low high))
+  module _ (letters heads turn : ℕ) (so-wide : letters ≡ sizes .letters) (so-many : heads ≡ sizes .control * sizes .letters) where
+    -- the turns from one on
+    pub turns-split : (table : List Entry) → turn < heads * 2
+        → turnsFrom birthdate letters heads turn g table ≡ turnAt birthdate letters heads turn g table ++ turnsFrom birthdate letters heads (turn + 1) g table
+    unfolding turnsFrom turnAt
+    turns-split table l = rw (add-one turn) (from-number (turnGives g table birthdate letters heads) turn (heads * 2) l)
 
-    pub heads-none : heads ≤ head → headsFrom birthdate letters heads head g es ≡ []
-    unfolding headsFrom
-    heads-none l = from-last (λ k. headCandidates g es birthdate (k / letters) (k % letters)) head heads l
+    pub turns-none : heads * 2 ≤ turn → turnsFrom birthdate letters heads turn g es ≡ []
+    unfolding turnsFrom
+    turns-none l = from-last (turnGives g es birthdate letters heads) turn (heads * 2) l
 
-    pub heads-all : (table : List Entry) → headsFrom birthdate letters heads 0 g table ≡ candidates g table birthdate
-    unfolding headsFrom candidates
-    heads-all table = rw (so-many, so-wide, control-is, letters-are) (sym (pairs-are (headCandidates g table birthdate) (g .letters) (g .control)))
+    -- a turn gives what its head's rules do, from the first one on, if it is the head's own
+    pub turn-first : (table : List Entry) → turn < heads * 2 → (r : ℕ)
+        → First rules (sizes .rulecount) (agrees (has (sizes .abelard) (turn % heads / letters)) (leb heads turn)) (turn % heads / letters) (turn % heads % letters) r
+        → turnAt birthdate letters heads turn g table ≡ rulesFrom birthdate (turn % heads / letters) (turn % heads % letters) r g table
+    unfolding turnAt turnGives rulesFrom
+    turn-first table l r first =
+        let p = turn % heads / letters in
+        let a = turn % heads % letters in
+        let some : 0 < letters = omega (arith, so-wide, letters-are, h .good .ranged .bottom) in
+        let inside : turn % heads < heads = mod-lt turn (omega arith) in
+        let low : p < g .control = div-lt-iff-lt-mul some .1 (rw (so-wide, ← control-is, ← so-many) inside) in
+        let high : a < g .letters = omega (arith, mod-lt (turn % heads) some, so-wide, letters-are) in
+        let owner : sizes .abelard ≡ g .abelard = ap (λ (x : Sizes). x .abelard) (h .held .sized) in
+        ⊎-elim
+        (λ (t : agrees (has (g .abelard) p) (leb heads turn) ≡ true).
+        rw t
+        (jobs-are g table birthdate p a (h .good) low high
+        ∙ next-same g table birthdate p a rules (h .held .slack) (h .held .stands) 0 r (rw rules-are at (first .next (rw owner t)))))
+        (λ (t : agrees (has (g .abelard) p) (leb heads turn) ≡ false).
+        rw t (sym (none-after g table birthdate p a rules (h .held .slack) (h .held .stands) r (omega (arith, rules-are, first .none (rw owner t))))))
+        (test (agrees (has (g .abelard) p) (leb heads turn)))
+
+  -- all turns give the candidates of the round, in another order
+  module _ (letters heads : ℕ) (so-wide : letters ≡ sizes .letters) (so-many : heads ≡ sizes .control * sizes .letters) where
+    pub turns-in-round : (table : List Entry) (e : Entry) → e ∈ turnsFrom birthdate letters heads 0 g table → e ∈ candidates g table birthdate
+    unfolding turnsFrom
+    turns-in-round table e m = turns-in g (h .good) table birthdate e (rw (so-many, so-wide, control-is, letters-are) at m)
+
+    pub turns-all : Alike (turnsFrom birthdate letters heads 0 g es) (candidates g es birthdate)
+    unfolding turnsFrom
+    turns-all = rw (so-many, so-wide, control-is, letters-are) (turns-alike g (h .good) es birthdate (λ e m. h .ranged e m .set))
 
 -- `take_wide`: the places of every head of the automaton are looked up
 module _ (g : PushdownGame) (sizes : Sizes) (rules : List ℕ) (held : Held g sizes rules) (good : Good g) where

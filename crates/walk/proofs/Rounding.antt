@@ -1,5 +1,5 @@
--- The turns of a round. Each of its loops adds a list of its own, part by part: the runs of a job, the jobs of a head, the heads.
-use Prim.Native.Nat.{ℕ, _/_, _%_, _<_}
+-- The turns of a round. Each of its loops adds a list of its own, part by part: the runs of a job, the jobs of a head, the turns of heads.
+use Prim.Native.Nat.{ℕ, _*_, _/_, _<_}
 use native.Mathlib.Omega.{arith}
 use mathlib.Core.Path.{_≡_, refl, sym, ap, _∙_}
 use mathlib.Core.Logic.{_⊎_, ⊎-elim}
@@ -13,19 +13,21 @@ use Rattle.game.specs.GoodGame.{Good}
 use Rattle.game.specs.Held.{Held}
 use Rattle.game.specs.declared.game.Sizes.{Sizes}
 use Rattle.table.specs.Table.{Entry}
-use Rattle.rounds.specs.Rounds.{below, entryAt, headCandidates}
+use Rattle.rounds.specs.Rounds.{below, entryAt}
 use Rattle.rounds.specs.RoundLaws.{AllRanged}
-use Rattle.rounds.specs.Growing.{Growing, growing, fully, full-stays}
+use Rattle.rounds.specs.Growing.{Growing, growing}
 use Rattle.rounds.specs.GrowingLaws.{growing-append, held-passed}
 use Rattle.rounds.specs.Filled.{Stored, Filled}
+use Rattle.walk.specs.AlikeLaws.{full-any, over-full}
 use Rattle.walk.specs.Places.{Placing}
 use Rattle.walk.specs.Past.{older, Past}
 use Rattle.walk.specs.PastLaws.{past-stays}
+use Rattle.walk.specs.Lists.{Listed}
 use Rattle.walk.specs.Jobs.{Finished, Memoed}
 use Rattle.walk.specs.RoundJobs.{runRuns}
+use Rattle.walk.specs.TurnLaws.{turnGives}
 use Rattle.walk.specs.RoundJobLaws.{jobsFrom, jobAt}
 use Rattle.walk.specs.declared.runs.Job.{Job}
-use Rattle.rounds.specs.StoredRows.{long-of}
 
 -- The entries that a part of a round gives, of a game and an old round.
 abbrev pub Entries : Type 0
@@ -36,7 +38,7 @@ abbrev pub runAt : ℕ → Job → ℕ → ℕ → Entries
 runAt birthdate job r i g es =
     map (entryAt (job .state) (job .letter) birthdate (job .field)) (runRuns g es (job .state) (job .letter) (job .end) r i)
 
--- its runs from place i on, a head's rules from place r on, the heads from one on
+-- its runs from place i on, a head's rules from place r on
 unfoldable pub runsFrom : ℕ → Job → ℕ → ℕ → ℕ → Entries
 runsFrom birthdate job r runs i g es = flatMap (λ j. runAt birthdate job r j g es) (drop i (below runs))
 
@@ -47,9 +49,12 @@ rulesFrom birthdate p a r g es = jobsFrom g es birthdate p a r
 abbrev pub jobEntries : ℕ → ℕ → ℕ → ℕ → Entries
 jobEntries birthdate p a r g es = jobAt g es birthdate p a r
 
-unfoldable pub headsFrom : ℕ → ℕ → ℕ → ℕ → Entries
-headsFrom birthdate letters heads head g es =
-    flatMap (λ h. headCandidates g es birthdate (h / letters) (h % letters)) (drop head (below heads))
+-- a turn, and the turns from one on
+unfoldable pub turnAt : ℕ → ℕ → ℕ → ℕ → Entries
+turnAt birthdate letters heads turn g es = turnGives g es birthdate letters heads turn
+
+unfoldable pub turnsFrom : ℕ → ℕ → ℕ → ℕ → Entries
+turnsFrom birthdate letters heads turn g es = flatMap (turnGives g es birthdate letters heads) (drop turn (below (heads * 2)))
 
 -- What a round enters with.
 pub record Setting (g : PushdownGame) (es : List Entry) (n : ℕ) (sizes : Sizes) (rules places work : List ℕ) (old : ℕ) : Type 0 where
@@ -71,19 +76,6 @@ pub record Going (g : PushdownGame) (es : List Entry) (birthdate n : ℕ) (whole
   pub filled : Filled n words count now
   pub memoed : Memoed g es birthdate n memo now
 
--- once full, nothing changes
-full-any : (n : ℕ) (es : List Entry) (s : Growing) → s .full ≡ true → growing n es s ≡ s
-full-any n es s t =
-    let e : s ≡ fully (s .entries) = λ i. record { entries = s .entries; full = t i } in
-    ap (growing n es) e ∙ full-stays n es (s .entries) ∙ sym e
-
--- a number of entries beyond the table says that it is full
-over-full : (n : ℕ) (words : List ℕ) (count : ℕ) (s : Growing) → Filled n words count s → length words / 3 < count → s .full ≡ true
-over-full n words count s f l =
-    ⊎-elim (λ t. t .0)
-    (λ t. absurd (omega (arith, long-of n words count s f, t .1 .counted, t .1 .fits)))
-    f
-
 module _ (sizes : Sizes) (rules places fresh work : List ℕ) (old birthdate late : ℕ) where
   abbrev In : PushdownGame → List Entry → ℕ → Type 0
   In g es n = Setting g es n sizes rules places work old
@@ -91,6 +83,13 @@ module _ (sizes : Sizes) (rules places fresh work : List ℕ) (old birthdate lat
   -- what is known where a list is kept of the past
   abbrev pub Knows : Entries → PushdownGame → List Entry → ℕ → Growing → Type 0
   Knows kept g es n s = Known es birthdate n fresh late (kept g (older birthdate es)) s
+
+  -- what is listed is right, where the last round's entries are noted
+  abbrev pub Rightly : List ℕ → List ℕ → Type 0
+  Rightly lists spans =
+      (g : PushdownGame) (es : List Entry) (n : ℕ) → In g es n
+      → ((e : Entry) → e ∈ es → (e ∈ older birthdate es) ⊎ (has (getD fresh (e .letter) 0) (e .state) ≡ true))
+      → Listed g es lists spans
 
   -- From one table and memo to another a list is added, whatever game they stand for.
   pub record Adds (list kept : Entries) (words : List ℕ) (count : ℕ) (memo words′ : List ℕ) (count′ : ℕ) (memo′ : List ℕ) : Type 0 where

@@ -11,7 +11,7 @@ use lib.Pow.{pow-lt, pow-pos}
 use borrow.Author.Tests.{eq-eqb, ltb-false, ltb-true, ne-eqb}
 use Rattle.game.specs.Sets.{has, single, union}
 use Rattle.game.specs.SetLaws.{has-above}
-use Rattle.game.specs.ListLaws.{_∈_, test, clash}
+use Rattle.game.specs.ListLaws.{_∈_, test, clash, flatMap-in, in-flatMap}
 use Rattle.game.specs.Game.{Rule, PushdownGame, ofHead}
 use Rattle.game.specs.Stored.{ruleAt}
 use Rattle.game.specs.StoredLaws.{noRule}
@@ -20,7 +20,7 @@ use Rattle.table.specs.Table.{Entry, entryOf, key}
 use Rattle.table.specs.Rows.{Placed, wordsAt}
 use Rattle.table.specs.declared.entry.EntryWords.{EntryWords}
 use Rattle.judge.specs.Worth.{entryOfHead}
-use Rattle.rounds.specs.Rounds.{entryAt, members}
+use Rattle.rounds.specs.Rounds.{entryAt, members, ruleEnds}
 use Rattle.rounds.specs.EndsLaws.{in-members}
 use Rattle.rounds.specs.Enumeration.{restRuns}
 use Rattle.rounds.specs.Growing.{Growing, grow, growing}
@@ -30,6 +30,8 @@ use Rattle.walk.specs.Memo.{lineAt}
 use Rattle.walk.specs.Places.{PlacedHead, Placing, Blocked}
 use Rattle.walk.specs.Jobs.{Late, Whole, Entered, Finished, subRuns, beginRuns, tagOf}
 use Rattle.rounds.specs.Scans.{NextRule, Highest, rulesBetween}
+use Rattle.walk.specs.AlikeLaws.{alike-sets, filled-alike, held-alike}
+use Rattle.walk.specs.Lists.{Listed, startOf, stopOf, listOf, listedRuns}
 use Rattle.walk.specs.JobLaws.{none-left}
 use Rattle.rounds.specs.ScanLaws.{next-is, none-next, rule-at}
 use Rattle.walk.specs.NextLaws.{beginOf, begin-at, pops, writes}
@@ -64,7 +66,7 @@ module _ (g : PushdownGame) (old : List Entry) (birthdate n : ℕ) (job : Job) (
   entry i = getD old i noEntry
 
   entry-is : (i : ℕ) → i < job .count → entryOf (wordsAt work i .first) (wordsAt work i .set) (wordsAt work i .rule) ≡ entry i
-  entry-is i l = entry-at n (job .count) work old (h .stands .stored) i l
+  entry-is i l = entry-at (h .stands .room) (job .count) work old (h .stands .stored) i l
 
   entry-in : (i : ℕ) → i < job .count → entry i ∈ old
   entry-in i l = getD-in noEntry old i (omega (arith, h .stands .stored .counted))
@@ -250,7 +252,7 @@ module _ (g : PushdownGame) (old : List Entry) (birthdate n : ℕ) (job : Job) (
       let inside = state-of set q (g .states) small (none .member) in
       let there = placing q (rule r l .below) inside (h .stands .ranged .rule (rule r l) (getD-in noRule (g .rules) r (within r l)) .below) in
       nothing
-      (no-runs n work (job .count) old (h .stands .stored) q (rule r l .below) (none .first) (none .last) (starts (none .starts work) there) (ends (none .ends work) there) (none .none) g
+      (no-runs (h .stands .room) work (job .count) old (h .stands .stored) q (rule r l .below) (none .first) (none .last) (starts (none .starts work) there) (ends (none .ends work) there) (none .none) g
       (rulesBetween g (job .state) (job .letter) (suc r) (job .end)) (members (g .states) set) (in-members (g .states) set inside (none .member)) u)
     where
       -- by the letter as the rule has it
@@ -282,7 +284,7 @@ module _ (g : PushdownGame) (old : List Entry) (birthdate n : ℕ) (job : Job) (
       split = next-is g (job .state) (job .letter) rules (h .stands .slack) (h .stands .written) (job .end) from r (h .stands .last) next l
 
       pub job-of : Late g job from → Whole g job r
-      job-of late = whole g job old birthdate n rules work (h .stands) from r late (next .after) l (split .1)
+      job-of late = whole g job old birthdate rules work (h .stands) from r late (next .after) l (split .1)
 
       -- the state that the rule goes to is joined
       module _ (passed : ℕ) (j : getD rules (r * 6 + 2) 0 < 32 → passed ≡ union u (single (getD rules (r * 6 + 2) 0))) where
@@ -308,6 +310,31 @@ module _ (g : PushdownGame) (old : List Entry) (birthdate n : ℕ) (job : Job) (
           same-list
           (ap (λ (rs : List Rule). restRuns g old rs u) (split .0) ∙ writes g old (job .state) (job .letter) (job .end) r u z)
           f
+
+      -- or its ends are listed
+      pub listed-first : (lists spans : List ℕ) → Listed g old lists spans → startOf spans r < stopOf spans r (length lists)
+          → {words′ : List ℕ} {count′ : ℕ} {memo′ : List ℕ}
+          → Leaves (listedRuns g old (job .state) (job .letter) (job .end) lists spans r u) words′ count′ memo′ → Leaves all words′ count′ memo′
+      unfolding listedRuns restRuns
+      listed-first lists spans listed some {words′} {count′} {memo′} f =
+          let later = rulesBetween g (job .state) (job .letter) (suc r) (job .end) in
+          let by : ℕ → List ℕ = λ z. restRuns g old later (union u z) in
+          let of : ℕ → List ℕ = λ z. subRuns g old (job .state) (job .letter) (job .end) r 0 (union u z) in
+          let same = alike-sets (job .state) (job .letter) birthdate (job .field) (flatMap of (listOf lists spans r)) (flatMap by (ruleEnds g old (rule r l)))
+          (λ x m.
+          let z = flatMap-in of (listOf lists spans r) m in
+          in-flatMap by (listed .inside r (z .0) (within r l) some (z .1) .0)
+          (subst (λ (xs : List ℕ). x ∈ xs) (none-left g old (job .state) (job .letter) (job .end) r (union u (z .0))) (z .2)))
+          (λ x m.
+          let z = flatMap-in by (ruleEnds g old (rule r l)) m in
+          in-flatMap of (listed .all r (z .0) (within r l) some (z .1))
+          (subst (λ (xs : List ℕ). x ∈ xs) (sym (none-left g old (job .state) (job .letter) (job .end) r (union u (z .0)))) (z .2)))
+          in
+          same-list (ap (λ (rs : List Rule). restRuns g old rs u) (split .0))
+          (record {
+            filled = filled-alike n same s (h .filled) words′ count′ (f .filled);
+            memoed = λ k p a q lp la lq e. held-alike n same s (h .filled) _ (f .memoed k p a q lp la lq e);
+          })
 
   -- `rules_after`: no state is left
   pub none-of-it : (r u : ℕ) {words′ : List ℕ} {count′ : ℕ} {memo′ : List ℕ}
@@ -339,7 +366,7 @@ module _ (g : PushdownGame) (old : List Entry) (birthdate n : ℕ) (job : Job) (
         rest =
             ap (λ (l : List ℕ). growing n (map (given g old birthdate n job rules work) l) s)
             (skip-front f noEntry start old (omega (arith, pl .within, st .counted))
-            (λ i l. none (getD old i noEntry) (before-head n work (job .count) old st q a start pl i l)));
+            (λ i l. none (getD old i noEntry) (before-head (h .stands .room) work (job .count) old st q a start pl i l)));
       }
 
   pub scan-to : (s : Growing) (i : ℕ) (words : List ℕ) (count : ℕ) (memo : List ℕ) → Scanning g old birthdate n job rules work f s i words count memo
@@ -352,7 +379,7 @@ module _ (g : PushdownGame) (old : List Entry) (birthdate n : ℕ) (job : Job) (
       c .rest
       ∙ ap (λ (l : List ℕ). growing n (map (given g old birthdate n job rules work) l) (c .now))
       (skip-end f noEntry i old
-      (λ k m inside. none (getD old k noEntry) (after-head n work (job .count) old st q a end pl k (omega arith) inside)))
+      (λ k m inside. none (getD old k noEntry) (after-head (c .entered .stands .room) work (job .count) old st q a end pl k (omega arith) inside)))
       in
       record { filled = rw e (c .entered .filled); memoed = rw e (c .entered .memoed) }
 

@@ -1,5 +1,5 @@
 -- The turns of a walk through the states left of a set, over the words that the code holds: its levels, the table and the memo.
-use Prim.Native.Nat.{ℕ, _+_, _*_, _-_, _%_, _^_, _<_, _≤_}
+use Prim.Native.Nat.{ℕ, _+_, _*_, _-_, _/_, _%_, _^_, _<_, _≤_}
 use native.Mathlib.Omega.{arith}
 use mathlib.Core.Path.{_≡_, refl, sym, ap, subst, _∙_}
 use mathlib.Core.Logic.{_⊎_, ⊎-elim}
@@ -25,13 +25,14 @@ use Rattle.walk.specs.PastLaws.{older-at, past-stays, past-same, past-pa
 use Rattle.rounds.specs.InsertLaws.{noEntry}
 use Rattle.walk.specs.Memo.{lineAt}
 use Rattle.walk.specs.MemoLaws.{memo-stored}
+use Rattle.walk.specs.AlikeLaws.{over-full}
 use Rattle.walk.specs.Walk.{Skipped}
 use Rattle.rounds.specs.Scans.{Highest}
 use Rattle.walk.specs.Jobs.{Whole, Entered, Finished, subRuns, tagOf}
 use Rattle.walk.specs.declared.runs.Job.{Job}
 use Rattle.walk.proofs.HeadPlaces.{before-head, after-head, within-head, skip-front}
 use Rattle.walk.proofs.Parts.{smaller}
-use Rattle.walk.proofs.Levels.{Level, givesAt, Standing, skipped, turned, opened, all-held, closed, Kept, after}
+use Rattle.walk.proofs.Levels.{Level, givesAt, Standing, skipped, turned, opened, all-held, closed, Kept, after, after-full}
 use Rattle.walk.proofs.LevelParts.{part, earlier, Fit, Stacked, Pasts, pasts-stay, stacked-kept, named, all-of, gives-none, gives-part, set-at, memo-held, older-in-level, older-held}
 
 -- a set that is not empty has one highest state
@@ -72,7 +73,7 @@ module _ (g : PushdownGame) (old : List Entry) (birthdate n : ℕ) (job : Job) (
       let v : Level = record { left = first; highest = q; union = reached; next = i; late = late } in
       let f : Fit g old birthdate n job rules work r v = record { high = high; some = some; small = small; start = i; placed = placed; begun = omega arith } in
       let none : (k : ℕ) → k < i → givesAt g old birthdate n job r v (getD old k noEntry) ≡ [] =
-      λ k l. gives-none g old birthdate n job rules work r words count memo s h v (getD old k noEntry) (before-head n work (job .count) old (h .stands .stored) q letter i placed k l)
+      λ k l. gives-none g old birthdate n job rules work r words count memo s h v (getD old k noEntry) (before-head (h .stands .room) work (job .count) old (h .stands .stored) q letter i placed k l)
       in
       record {
         high = q;
@@ -93,6 +94,18 @@ module _ (g : PushdownGame) (old : List Entry) (birthdate n : ℕ) (job : Job) (
                   ∙ skip-front (givesAt g old birthdate n job r v) noEntry i old (omega (arith, placed .within, h .stands .stored .counted)) none);
             };
       }
+
+  -- the table is full: nothing of what is left changes it
+  pub walk-over : (s : Growing) (first reached : ℕ) (lefts unions nexts limits : List ℕ) (depth left u i limit : ℕ) (words : List ℕ) (count : ℕ) (memo : List ℕ)
+      → Walking s first reached lefts unions nexts limits depth left u i limit words count memo → length words / 3 < count
+      → Finished g old birthdate n (part g old birthdate n job rules work r first reached) s words count memo
+  walk-over s first reached lefts unions nexts limits depth left u i limit words count memo w over =
+      let full = over-full n words count (w .now) (w .entered .filled) over in
+      let e =
+      w .standing .ends
+      ∙ after-full g old birthdate n job r (record { left = left; highest = w .high; union = u; next = i; late = limit } ∷ w .waiting) (w .now) full
+      in
+      record { filled = rw e (w .entered .filled); memoed = rw e (w .entered .memoed) }
 
   -- One turn: the highest state left is q, and entries are passed over up to place `found`.
   module _ (s : Growing) (first reached : ℕ) (lefts unions nexts limits : List ℕ) (depth left u i limit : ℕ) (words : List ℕ) (count : ℕ) (memo : List ℕ)
@@ -135,7 +148,7 @@ module _ (g : PushdownGame) (old : List Entry) (birthdate n : ℕ) (job : Job) (
       none-left : (k : ℕ) → found ≤ k → k < length old → givesAt g old birthdate n job r (top found) (getD old k noEntry) ≡ []
       none-left k l m =
           gives-none g old birthdate n job rules work r words count memo (w .now) (w .entered) (top found) (getD old k noEntry)
-          (after-head n work (job .count) old (w .entered .stands .stored) q letter end ended k (omega arith) m)
+          (after-head (w .entered .stands .room) work (job .count) old (w .entered .stands .stored) q letter end ended k (omega arith) m)
 
       part-held : HeldBy n (part g old birthdate n job rules work r left u) (w .now)
       part-held =
@@ -198,7 +211,7 @@ module _ (g : PushdownGame) (old : List Entry) (birthdate n : ℕ) (job : Job) (
     module _ (ended : Placed work (job .count) (key q letter 4294967296) end) (more : found < end) (letters : letter < 256) where
       entry-of : entryOfHead q letter (getD old found noEntry) ≡ true
       entry-of =
-          within-head n work (job .count) old (w .entered .stands .stored) q letter letters (fit-at found (skip .after) .start) end
+          within-head (w .entered .stands .room) work (job .count) old (w .entered .stands .stored) q letter letters (fit-at found (skip .after) .start) end
           (fit-at found (skip .after) .placed) ended found (fit-at found (skip .after) .begun) more
 
       inside-old : found < length old
@@ -221,7 +234,7 @@ module _ (g : PushdownGame) (old : List Entry) (birthdate n : ℕ) (job : Job) (
             (λ some.
             let known = same some in
             let m =
-            older-at birthdate old n (job .count) work (w .entered .stands .stored) limit (w .past .0 (omega (arith, known .0)) .0) found
+            older-at birthdate old (w .entered .stands .room) (job .count) work (w .entered .stands .stored) limit (w .past .0 (omega (arith, known .0)) .0) found
             (omega (arith, ended .within)) (known .1)
             in (
               known .0,
@@ -282,7 +295,7 @@ module _ (g : PushdownGame) (old : List Entry) (birthdate n : ℕ) (job : Job) (
             let none : (k : ℕ) → k < start → givesAt g old birthdate n job r v (getD old k noEntry) ≡ [] =
             λ k l.
             gives-none g old birthdate n job rules work r words count memo (w .now) (w .entered) v (getD old k noEntry)
-            (before-head n work (job .count) old (w .entered .stands .stored) p letter start placed k l)
+            (before-head (w .entered .stands .room) work (job .count) old (w .entered .stands .stored) p letter start placed k l)
             in
             record {
               high = p;

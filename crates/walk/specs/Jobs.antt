@@ -78,11 +78,12 @@ pub record Whole (g : PushdownGame) (job : Job) (r : ℕ) : Type 0 where
   pub heads : ofHead (job .state) (job .letter) (getD (g .rules) r noRule) ≡ true
 
 -- What the code's job stands for.
-pub record Stands (g : PushdownGame) (old : List Entry) (birthdate n : ℕ) (job : Job) (rules work : List ℕ) : Type 0 where
+pub record Stands (g : PushdownGame) (old : List Entry) (birthdate : ℕ) (job : Job) (rules work : List ℕ) : Type 0 where
   pub slack : List ℕ
+  pub room : ℕ
   pub written : rules ≡ ruleBytes (g .rules) ++ slack
   pub ranged : Ranged g
-  pub stored : Stored n work (job .count) old
+  pub stored : Stored room work (job .count) old
   pub sets : (e : Entry) → e ∈ old → e .set < 2 ^ g .states
   pub state : job .state < g .control
   pub letter : job .letter < g .letters
@@ -95,7 +96,7 @@ pub record Stands (g : PushdownGame) (old : List Entry) (birthdate n : ℕ) (job
 
 -- What an enumeration enters with: a table and a memo that stand for a growing table.
 pub record Entered (g : PushdownGame) (old : List Entry) (birthdate n : ℕ) (job : Job) (rules work words : List ℕ) (count : ℕ) (memo : List ℕ) (s : Growing) : Type 0 where
-  pub stands : Stands g old birthdate n job rules work
+  pub stands : Stands g old birthdate job rules work
   pub filled : Filled n words count s
   pub memoed : Memoed g old birthdate n memo s
 

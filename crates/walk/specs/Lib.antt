@@ -7,6 +7,9 @@ pub mod RoundJobs
 pub mod RoundJobLaws
 pub mod Places
 pub mod Walk
+pub mod Lists
+pub mod AlikeLaws
+pub mod TurnLaws
 pub mod Past
 pub mod PastLaws
 pub mod RoundPast

@@ -33,7 +33,7 @@ use Rattle.walk.specs.Past.{older, lateOf, Past, Settled, Aging}
 use Rattle.walk.specs.declared.runs.Job.{Job}
 
 -- what is in a part of a list
-part-in : {A : Type 0} (d : A) (m n : ℕ) (xs : List A) {x : A} → x ∈ take m (drop n xs)
+pub part-in : {A : Type 0} (d : A) (m n : ℕ) (xs : List A) {x : A} → x ∈ take m (drop n xs)
     → (k : ℕ) × (n ≤ k) × (k < n + m) × (x ≡ getD xs k d)
 part-in d zero n xs i = absurd (List·Memᴰ·not-nil i)
 part-in d (suc m) zero [] i = absurd (List·Memᴰ·not-nil i)

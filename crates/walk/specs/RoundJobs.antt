@@ -1,17 +1,19 @@
 -- The jobs of a round: for each rule of Éloise's head one, and one for Abelard's head from his first rule on; and the runs of a
 -- job by the first transition of its first rule.
-use Prim.Native.Nat.{ℕ, _+_, _*_, _≤_}
+use Prim.Native.Nat.{ℕ, _+_, _*_, _<_, _≤_}
 use mathlib.Core.Path.{_≡_}
-use mathlib.Core.Bool.{Bool, cond}
+use mathlib.Core.Bool.{Bool, true, false, cond}
 use mathlib.Core.List.{List}
 use lib.ListN.{getD}
 use lib.Dec.{eqb}
 use Rattle.game.specs.Sets.{has, single}
-use Rattle.game.specs.Game.{PushdownGame}
+use Rattle.game.specs.Game.{PushdownGame, ofHead}
+use Rattle.game.specs.Stored.{ruleAt}
 use Rattle.game.specs.StoredLaws.{noRule}
 use Rattle.game.specs.declared.game.Sizes.{Sizes}
 use Rattle.table.specs.Table.{Entry, key, firstWord}
 use Rattle.table.specs.Rows.{Placed}
+use Rattle.rounds.specs.Scans.{NextRule}
 use Rattle.walk.specs.Places.{PlacedHead}
 use Rattle.walk.specs.Memo.{lineAt}
 use Rattle.walk.specs.Jobs.{subRuns, beginRuns}
@@ -31,6 +33,13 @@ jobWith sizes p a birthdate r old last abelards =
 
 abbrev pub jobOf : Sizes → ℕ → ℕ → ℕ → ℕ → ℕ → ℕ → Job
 jobOf sizes p a birthdate r old last = jobWith sizes p a birthdate r old last (has (sizes .abelard) p)
+
+-- where a head's rules begin in a turn: at its first rule, or after all rules where the turn is not its own
+pub record First (rules : List ℕ) (rulecount : ℕ) (own : Bool) (p a r : ℕ) : Type 0 where
+  pub within : r ≤ rulecount
+  pub found : r < rulecount → ofHead p a (ruleAt rules (r * 6) 0) ≡ true
+  pub next : own ≡ true → NextRule rules rulecount 0 p a r
+  pub none : own ≡ false → r ≡ rulecount
 
 -- how many runs a rule has by their first transition: one, where it writes nothing
 unfoldable pub runsOf : List ℕ → ℕ → ℕ → ℕ

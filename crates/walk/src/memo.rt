@@ -3,11 +3,11 @@
 ghost use mathlib.Core.Path.{_≡_};
 ghost use mathlib.Core.Logic.{_⊎_};
 ghost use mathlib.Core.Bool.{true};
-ghost use Prim.Native.Nat.{ℕ};
+ghost use Prim.Native.Nat.{ℕ, _<_};
 ghost use Rattle.walk.specs.Memo.{lineAt};
 
 // How many lines it has, and how many words a line has.
-pub const LINES: usize = 16384;
+pub const LINES: usize = 8192;
 
 pub const LINE: usize = 3;
 
@@ -15,7 +15,7 @@ pub const LINE: usize = 3;
 pub fn is_finished(memo: &[u32], tag: u32, left: u32, union: u32) -> bool
     ensures { λ r. ⌜ (r ≡ true → (k : ℕ) × (lineAt (now (memo .entry)) k ≡ record { tag = tag; left = left; union = union })) ⌝ }
 {
-    let line = line_of(tag, left, union);
+    let line = line_of(memo.len() / LINE, tag, left, union);
     if memo.len() / LINE <= line {
         return false;
     }
@@ -34,7 +34,7 @@ pub fn finish(memo: &mut [u32], tag: u32, left: u32, union: u32)
     ensures { λ _. ⌜ ((k : ℕ) → (lineAt (now (memo .exit)) k ≡ record { tag = tag; left = left; union = union })
         ⊎ (lineAt (now (memo .exit)) k ≡ lineAt (now (memo .entry)) k)) ⌝ }
 {
-    let line = line_of(tag, left, union);
+    let line = line_of(memo.len() / LINE, tag, left, union);
     if memo.len() / LINE <= line {
         return;
     }
@@ -44,8 +44,19 @@ pub fn finish(memo: &mut [u32], tag: u32, left: u32, union: u32)
     memo[at + 2] = union;
 }
 
-// The line of a key.
-fn line_of(tag: u32, left: u32, union: u32) -> usize {
+// The line of a key among so many.
+fn line_of(lines: usize, tag: u32, left: u32, union: u32) -> usize {
     let mixed = (tag as u64) * 2654435769 + (left as u64) * 374761393 + (union as u64) * 668265263;
-    ((mixed / 65536) % 16384) as usize
+    let line = ((mixed / 65536) % 16384) as usize;
+    if 16384 <= lines {
+        return line;
+    }
+    scaled(line, lines)
+}
+
+// One of 16,384 lines among fewer, in their order.
+fn scaled(line: usize, lines: usize) -> usize
+    requires { ⌜ (line < 16384) × (lines < 16384) ⌝ }
+{
+    line * lines / 16384
 }

@@ -1,8 +1,11 @@
 // A round: what the runs of the old round give, head by head, rule by rule and run by run.
+use crate::ends::list_later;
 use crate::fresh::LETTERS;
 use crate::fresh::last_fresh;
 use crate::fresh::late_of;
 use crate::fresh::set_fresh;
+use crate::lists::LISTED;
+use crate::lists::SPANS;
 use crate::memo::LINE;
 use crate::memo::LINES;
 use crate::places::PLACES;
@@ -24,6 +27,7 @@ ghost use mathlib.Core.Bool.{true};
 ghost use mathlib.Core.List.{List, map};
 ghost use Prim.Native.Nat.{ℕ, _+_, _*_, _<_, _≤_};
 ghost use Rattle.game.specs.Limits.{maxRules};
+ghost use Rattle.game.specs.Sets.{has};
 ghost use lib.ListN.{length};
 ghost use Rattle.game.specs.Game.{PushdownGame};
 ghost use Rattle.game.specs.GoodGame.{Good};
@@ -38,8 +42,10 @@ ghost use Rattle.walk.specs.Past.{lateOf, older, Past, Aging, Marked, Se
 ghost use Rattle.rounds.specs.Growing.{Growing, growing, partly};
 ghost use Rattle.rounds.specs.Filled.{Stored, Filled};
 ghost use Rattle.walk.specs.Jobs.{Able, Whole, Entered, Finished};
+ghost use Rattle.walk.specs.Lists.{Listed, Unlisted};
 ghost use Rattle.walk.specs.Places.{Placing};
-ghost use Rattle.walk.specs.RoundJobs.{jobOf, runsOf, runRuns, Blank, RunsStart, RunsEnd};
+ghost use Rattle.walk.specs.RoundJobs.{jobOf, runsOf, runRuns, Blank, RunsStart, RunsEnd, First};
+ghost use Rattle.walk.specs.TurnLaws.{agrees};
 
 // The next round, added to a table that holds the old one as `work` does: the number of entries afterwards, or one more than
 // the table can hold. What the entries older than the last round give must be held already, where there was one. The memo is the
@@ -65,6 +71,8 @@ pub fn take_wide(
     let mut fresh = [0u32; LETTERS];
     set_fresh(&mut fresh, work, old, late);
     let mut memo = [0u32; LINES * LINE];
+    let mut lists = [0u32; LISTED];
+    let mut spans = [0usize; SPANS];
     add_runs(
         sizes,
         rules,
@@ -73,14 +81,17 @@ pub fn take_wide(
         work,
         table,
         &mut memo,
+        &mut lists,
+        &mut spans,
         old,
         birthdate,
         late,
     )
 }
 
-// The nest is left at the first entry beyond the table, whichever head or rule gave it. Abelard's head has one job, from his
-// first rule on; Éloise's has one for each rule.
+// Éloise's heads come first, then Abelard's, whose runs are the more: where the table is too small, hers alone often show it. The
+// nest is left at the first entry beyond the table, whichever head or rule gave it. Abelard's head has one job, from his first rule
+// on; Éloise's has one for each rule.
 fn add_runs(
     sizes: Sizes,
     rules: &[u8],
@@ -89,11 +100,14 @@ fn add_runs(
     work: &[u32],
     table: &mut [u32],
     memo: &mut [u32],
+    lists: &mut [u32],
+    spans: &mut [usize],
     old: usize,
     birthdate: u32,
     late: u32,
 ) -> usize
-    requires { ⌜ Safe sizes (now rules) × (0 < sizes .letters) × (old * 3 ≤ length (now work)) × (birthdate < 65536) ⌝ }
+    requires { ⌜ Safe sizes (now rules) × (0 < sizes .letters) × (old * 3 ≤ length (now work)) × (birthdate < 65536)
+        × (length (now lists) ≡ 4096) × (length (now spans) ≡ 512) × Unlisted (now spans) ⌝ }
     ensures { λ r. ⌜ ((g : PushdownGame) (es : List Entry) (n : ℕ) → Held g sizes (now (rules .entry)) → Good g → AllRanged g es
         → Stored n (now (work .entry)) old es → Stored n (now (table .entry)) old es → (1 < birthdate → HeldBy n (candidates g (older birthdate es) birthdate) (partly es))
         → late ≡ lateOf birthdate → Marked (now (work .entry)) (now (fresh .entry)) late old → Placing g (now (work .entry)) old (now (places .entry)) → Blank (now (memo .entry))
@@ -105,15 +119,17 @@ fn add_runs(
     let heads = (sizes.control as usize) * letters;
     let rulecount = sizes.rulecount;
     let mut count = old;
-    let mut head = 0;
-    'round: while head < heads {
+    let mut turn = 0;
+    'round: while turn < heads * 2 {
+        let head = turn % heads;
         let p = (head / letters) as u8;
         let a = (head % letters) as u8;
-        let mut r = next_rule(rules, rulecount, 0, p, a);
+        let mut r = first_rule(sizes, rules, p, a, heads <= turn);
         while r < rulecount {
             let job = job_of(sizes, rules, fresh, p, a, birthdate, r, old);
             let end = runs_end(rules, places, r, old, job.last, late);
             let mut i = runs_start(rules, places, r, old);
+            list_later(job, rules, places, fresh, work, lists, spans, r, i, end);
             while i < end {
                 count = run_at(
                     job,
@@ -123,6 +139,8 @@ fn add_runs(
                     work,
                     table,
                     memo,
+                    lists,
+                    spans,
                     count,
                     r,
                     i,
@@ -135,9 +153,29 @@ fn add_runs(
             }
             r = next_rule(rules, rulecount, job.end, p, a);
         }
-        head += 1;
+        turn += 1;
     }
     count
+}
+
+// The first rule of a head in one of its two turns, the later one for Abelard's heads: `rulecount` where the turn is not its own.
+fn first_rule(sizes: Sizes, rules: &[u8], p: u8, a: u8, later: bool) -> usize
+    requires { ⌜ (sizes .rulecount * 6 ≤ length (now rules)) × (sizes .rulecount ≤ maxRules) ⌝ }
+    ensures { λ x. ⌜ First (now (rules .entry)) (sizes .rulecount) (agrees (has (sizes .abelard) p) later) p a x ⌝ }
+{
+    if is_turn(has_state(sizes.abelard, p), later) {
+        return next_rule(rules, sizes.rulecount, 0, p, a);
+    }
+    sizes.rulecount
+}
+
+fn is_turn(abelards: bool, later: bool) -> bool
+    ensures { λ r. ⌜ r ≡ agrees abelards later ⌝ }
+{
+    if abelards {
+        return later;
+    }
+    !later
 }
 
 // The job of rule r of a head: Abelard's takes one run for each of his rules, Éloise's the rule by itself.
@@ -224,6 +262,8 @@ fn run_at(
     work: &[u32],
     table: &mut [u32],
     memo: &mut [u32],
+    lists: &[u32],
+    spans: &[usize],
     count: usize,
     r: usize,
     i: usize,
@@ -233,7 +273,7 @@ fn run_at(
     ensures { λ x. ⌜ ((g : PushdownGame) (old : List Entry) (birthdate n : ℕ) (s : Growing)
         → Entered g old birthdate n job (now (rules .entry)) (now (work .entry)) (now (table .entry)) count (now (memo .entry)) s
         → Placing g (now (work .entry)) (job .count) (now (places .entry))
-        → Aging g old birthdate job (now (fresh .entry))
+        → Aging g old birthdate job (now (fresh .entry)) → Listed g old (now (lists .entry)) (now (spans .entry))
         → Whole g job r
         → Past birthdate n late (map (entryAt (job .state) (job .letter) birthdate (job .field)) (restRuns g (older birthdate old) (rulesBetween g (job .state) (job .letter) r (job .end)) 0)) s
         → Finished g old birthdate n
@@ -253,6 +293,8 @@ fn run_at(
             work,
             table,
             memo,
+            lists,
+            spans,
             count,
             r,
             passed,
@@ -267,6 +309,8 @@ fn run_at(
         work,
         table,
         memo,
+        lists,
+        spans,
         count,
         r,
         i,

@@ -3,6 +3,9 @@
 use crate::fresh::fresh_on;
 use crate::fresh::older_below;
 use crate::fresh::still_late;
+use crate::lists::is_listed;
+use crate::lists::list_end;
+use crate::lists::list_start;
 use crate::memo::finish;
 use crate::memo::is_finished;
 use crate::places::end_at;
@@ -25,6 +28,7 @@ ghost use Rattle.rounds.specs.Rounds.{entryAt};
 ghost use Rattle.rounds.specs.Enumeration.{restRuns};
 ghost use Rattle.rounds.specs.Growing.{Growing};
 ghost use Rattle.walk.specs.Places.{Placing};
+ghost use Rattle.walk.specs.Lists.{Listed, startOf, stopOf, listedRuns};
 ghost use Rattle.walk.specs.Walk.{Skipped};
 ghost use Rattle.rounds.specs.Scans.{rulesBetween};
 ghost use Rattle.walk.specs.Past.{older, Past, Aging};
@@ -74,6 +78,8 @@ pub fn rules_from(
     work: &[u32],
     table: &mut [u32],
     memo: &mut [u32],
+    lists: &[u32],
+    spans: &[usize],
     count: usize,
     from: usize,
     union: u32,
@@ -83,7 +89,7 @@ pub fn rules_from(
     ensures { λ x. ⌜ ((g : PushdownGame) (old : List Entry) (birthdate n : ℕ) (s : Growing)
         → Entered g old birthdate n job (now (rules .entry)) (now (work .entry)) (now (table .entry)) count (now (memo .entry)) s
         → Placing g (now (work .entry)) (job .count) (now (places .entry))
-        → Aging g old birthdate job (now (fresh .entry))
+        → Aging g old birthdate job (now (fresh .entry)) → Listed g old (now (lists .entry)) (now (spans .entry))
         → Late g job from → 0 < union
         → Past birthdate n late (map (entryAt (job .state) (job .letter) birthdate (job .field)) (restRuns g (older birthdate old) (rulesBetween g (job .state) (job .letter) from (job .end)) union)) s
         → Finished g old birthdate n
@@ -112,10 +118,28 @@ pub fn rules_from(
             work,
             table,
             memo,
+            lists,
+            spans,
             count,
             r,
             passed,
             late,
+        );
+    }
+    if is_listed(lists, spans, r) {
+        return rules_by(
+            job,
+            rules,
+            places,
+            fresh,
+            work,
+            table,
+            memo,
+            lists,
+            spans,
+            count,
+            r,
+            union,
         );
     }
     let end = end_at(places, job.count, rules[at + 2], rules[at + 4]);
@@ -130,12 +154,71 @@ pub fn rules_from(
             work,
             table,
             memo,
+            lists,
+            spans,
             filled,
             r,
             i,
             union,
             late,
         );
+        if table.len() / EntryWords::STRIDE < filled {
+            return filled;
+        }
+        i += 1;
+    }
+    filled
+}
+
+// The same from rule r on, which is listed: the ends of its runs one after another. What older entries give is not left out.
+fn rules_by(
+    job: Job,
+    rules: &[u8],
+    places: &[usize],
+    fresh: &[u32],
+    work: &[u32],
+    table: &mut [u32],
+    memo: &mut [u32],
+    lists: &[u32],
+    spans: &[usize],
+    count: usize,
+    r: usize,
+    union: u32,
+) -> usize
+    requires { ⌜ Able job (length (now rules)) (length (now work)) × (r < job .end) ⌝ }
+    ensures { λ x. ⌜ ((g : PushdownGame) (old : List Entry) (birthdate n : ℕ) (s : Growing)
+        → Entered g old birthdate n job (now (rules .entry)) (now (work .entry)) (now (table .entry)) count (now (memo .entry)) s
+        → Placing g (now (work .entry)) (job .count) (now (places .entry))
+        → Aging g old birthdate job (now (fresh .entry)) → Listed g old (now (lists .entry)) (now (spans .entry))
+        → Whole g job r → startOf (now (spans .entry)) r < stopOf (now (spans .entry)) r (length (now (lists .entry)))
+        → Finished g old birthdate n
+        (map (entryAt (job .state) (job .letter) birthdate (job .field)) (listedRuns g old (job .state) (job .letter) (job .end) (now (lists .entry)) (now (spans .entry)) r union))
+        s (now (table .exit)) x (now (memo .exit))) ⌝ }
+    ensures { λ _. ⌜ length (now (table .exit)) ≡ length (now (table .entry)) ⌝ }
+    ensures { λ _. ⌜ length (now (memo .exit)) ≡ length (now (memo .entry)) ⌝ }
+{
+    let end = list_end(spans, r, lists.len());
+    let mut filled = count;
+    let mut i = list_start(spans, r);
+    while i < end {
+        filled = rules_after(
+            job,
+            rules,
+            places,
+            fresh,
+            work,
+            table,
+            memo,
+            lists,
+            spans,
+            filled,
+            r,
+            union | lists[i],
+            0,
+        );
+        if table.len() / EntryWords::STRIDE < filled {
+            return filled;
+        }
         i += 1;
     }
     filled
@@ -150,6 +233,8 @@ pub fn runs_with(
     work: &[u32],
     table: &mut [u32],
     memo: &mut [u32],
+    lists: &[u32],
+    spans: &[usize],
     count: usize,
     r: usize,
     i: usize,
@@ -160,7 +245,7 @@ pub fn runs_with(
     ensures { λ x. ⌜ ((g : PushdownGame) (old : List Entry) (birthdate n : ℕ) (s : Growing)
         → Entered g old birthdate n job (now (rules .entry)) (now (work .entry)) (now (table .entry)) count (now (memo .entry)) s
         → Placing g (now (work .entry)) (job .count) (now (places .entry))
-        → Aging g old birthdate job (now (fresh .entry))
+        → Aging g old birthdate job (now (fresh .entry)) → Listed g old (now (lists .entry)) (now (spans .entry))
         → Whole g job r
         → Past birthdate n late (map (entryAt (job .state) (job .letter) birthdate (job .field)) (flatMap (beginOf g (older birthdate old) (job .state) (job .letter) (job .end) r union) (older birthdate old))) s
         → Finished g old birthdate n
@@ -187,6 +272,8 @@ pub fn runs_with(
             work,
             table,
             memo,
+            lists,
+            spans,
             count,
             r,
             union | entry.set,
@@ -208,6 +295,8 @@ pub fn runs_with(
         work,
         table,
         memo,
+        lists,
+        spans,
         count,
         r,
         entry.set,
@@ -226,6 +315,8 @@ pub fn rules_after(
     work: &[u32],
     table: &mut [u32],
     memo: &mut [u32],
+    lists: &[u32],
+    spans: &[usize],
     count: usize,
     r: usize,
     union: u32,
@@ -235,7 +326,7 @@ pub fn rules_after(
     ensures { λ x. ⌜ ((g : PushdownGame) (old : List Entry) (birthdate n : ℕ) (s : Growing)
         → Entered g old birthdate n job (now (rules .entry)) (now (work .entry)) (now (table .entry)) count (now (memo .entry)) s
         → Placing g (now (work .entry)) (job .count) (now (places .entry))
-        → Aging g old birthdate job (now (fresh .entry))
+        → Aging g old birthdate job (now (fresh .entry)) → Listed g old (now (lists .entry)) (now (spans .entry))
         → Whole g job r → 0 < union
         → Past birthdate n late (map (entryAt (job .state) (job .letter) birthdate (job .field)) (subRuns g (older birthdate old) (job .state) (job .letter) (job .end) r 0 union)) s
         → Finished g old birthdate n
@@ -259,6 +350,8 @@ pub fn rules_after(
         work,
         table,
         memo,
+        lists,
+        spans,
         count,
         r + 1,
         union,
@@ -280,6 +373,8 @@ fn pass_states(
     work: &[u32],
     table: &mut [u32],
     memo: &mut [u32],
+    lists: &[u32],
+    spans: &[usize],
     count: usize,
     r: usize,
     set: u32,
@@ -290,7 +385,7 @@ fn pass_states(
     ensures { λ x. ⌜ ((g : PushdownGame) (old : List Entry) (birthdate n : ℕ) (s : Growing)
         → Entered g old birthdate n job (now (rules .entry)) (now (work .entry)) (now (table .entry)) count (now (memo .entry)) s
         → Placing g (now (work .entry)) (job .count) (now (places .entry))
-        → Aging g old birthdate job (now (fresh .entry))
+        → Aging g old birthdate job (now (fresh .entry)) → Listed g old (now (lists .entry)) (now (spans .entry))
         → Whole g job r → set < 2 ^ g .states
         → Past birthdate n late (map (entryAt (job .state) (job .letter) birthdate (job .field)) (subRuns g (older birthdate old) (job .state) (job .letter) (job .end) r set reached)) s
         → Finished g old birthdate n
@@ -341,11 +436,16 @@ fn pass_states(
                 work,
                 table,
                 memo,
+                lists,
+                spans,
                 filled,
                 r,
                 passed,
                 still,
             );
+            if table.len() / EntryWords::STRIDE < filled {
+                return filled;
+            }
             i = found + 1;
             continue;
         }
