@@ -133,6 +133,36 @@ pub fn deepest_file(control: u8, below: u8) -> Vec<u8> {
     making.end()
 }
 
+/// Many rules of one Abelard head, each with a run that passes a set of 31 states, after four rules with 1,024 ends each, which is as
+/// many as the library has room to list: (0, 1) → (0, [b, c]) for four letters b and c = 6, then for 42 letters b and 5 letters c.
+pub fn unlisted_file() -> Vec<u8> {
+    let (above, below) = (42, 5);
+    let mut making = Making::new(1, MAX_STATES, 1 + above);
+    making.abelard(0);
+    for q in 1..MAX_STATES {
+        making.finals(q);
+        for c in 1..=below + 1 {
+            making.target(q, c, 1 << q);
+        }
+        if q <= 10 {
+            making.target(q, below + 1, 1 << 31);
+        }
+    }
+    making.idle_rules();
+    for b in 1..=above {
+        making.target(0, b, making.further());
+    }
+    for b in 1..=4 {
+        making.rule(0, 1, 0, &[b, below + 1]);
+    }
+    for b in 1..=above {
+        for c in 1..=below {
+            making.rule(0, 1, 0, &[b, c]);
+        }
+    }
+    making.end()
+}
+
 /// Many rules of one Abelard head whose runs pass a set of all 32 states: (0, 1) → (0, [b, c]) for 7 letters c and 27 letters b.
 /// Each b gets that set in round 1 from a rule that writes nothing and one that writes letter 2.
 pub fn fullest_sets() -> Vec<u8> {

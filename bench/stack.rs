@@ -3,7 +3,7 @@
 use crate::judging::full_table;
 use crate::lent;
 use crate::library;
-use crate::making::{deepest_file, fullest_sets, longest_file, ten_elements};
+use crate::making::{deepest_file, fullest_sets, longest_file, ten_elements, unlisted_file};
 use crate::reader;
 use std::ffi::c_void;
 
@@ -100,6 +100,11 @@ fn run(deep: &mut Deep, function: usize, size: usize) -> Option<(bool, usize, us
     if failed == 0 { Some((argument.2, below_caller, in_all)) } else { None }
 }
 
+/// How many rules the head (0, 1) of a file has.
+fn rules_of_head(file: &[u8]) -> Option<usize> {
+    Some(reader::read(file).ok()?.rules.iter().filter(|rule| (rule.from, rule.letter) == (0, 1)).count())
+}
+
 /// The inputs with their names; the games given come under one name.
 fn inputs(games: &[&[u8]]) -> Option<Vec<(String, Vec<Deep>)>> {
     let full = full_table(library::MAX_TABLE / 3);
@@ -111,10 +116,12 @@ fn inputs(games: &[&[u8]]) -> Option<Vec<(String, Vec<Deep>)>> {
     ];
     for (control, below) in [(1, 7), (2, 7), (3, 7), (3, 8)] {
         let file = deepest_file(control, below);
-        let rules = reader::read(&file).ok()?.rules.iter().filter(|rule| (rule.from, rule.letter) == (0, 1)).count();
-        let name = format!("{rules} rules of a head, sets of {}", 32 - control);
+        let name = format!("{} rules of a head, sets of {}", rules_of_head(&file)?, 32 - control);
         inputs.push((name, vec![Deep::new(file, None)?]));
     }
+    let unlisted = unlisted_file();
+    let name = format!("{} rules of a head, more ends than are listed", rules_of_head(&unlisted)?);
+    inputs.push((name, vec![Deep::new(unlisted, None)?]));
     inputs.push(("189 rules of a head, sets of 32".to_string(), vec![Deep::new(fullest_sets(), None)?]));
     let given: Option<Vec<Deep>> = games.iter().map(|file| Deep::new(file.to_vec(), None)).collect();
     inputs.push((format!("the {} games", games.len()), given?));
