@@ -2,7 +2,7 @@
 use Prim.Native.Nat.{ℕ, _+_, _*_, _-_, _/_, _^_, _<_, _≤_}
 use native.Mathlib.Omega.{arith}
 use native.Mathlib.Nat.{mul-le-mul-right, add-mul}
-use mathlib.Core.Path.{_≡_, refl, sym, ap, subst, _∙_}
+use mathlib.Core.Path.{_≡_, sym, ap, subst, _∙_}
 use mathlib.Core.Logic.{_⊎_, inl, inr, ⊎-elim}
 use mathlib.Core.Bool.{true, false}
 use mathlib.Core.List.{List}
@@ -12,8 +12,8 @@ use borrow.Author.Tests.{eqb-true, eqb-false, ltb-true, ltb-false}
 use Rattle.game.specs.ListLaws.{test, clash}
 use Rattle.game.specs.Game.{PushdownGame}
 use Rattle.table.specs.Table.{Entry}
-use Rattle.family.specs.Family.{holds, Elsewhere, Cleared}
-use Rattle.saturation.specs.Pool.{Is, Grew, Head, Layout, Kept, HeadsHold, HeadsGrew}
+use Rattle.family.specs.Family.{Elsewhere, Cleared}
+use Rattle.saturation.specs.Pool.{Is, Grew, Head, Layout, Kept}
 use Rattle.saturation.specs.PoolLaws.{next-row, apart}
 use Rattle.saturation.specs.JoinLaws.{is-as, is-kept, grew-kept}
 use Rattle.saturation.specs.Expand.{expand}
@@ -54,40 +54,6 @@ module _ (el : List ℕ) (g : PushdownGame) (n : ℕ) (lay : Layout el g n) (es 
             let ne : q * g .letters + a ≡ h → ⊥ = λ e. omega (arith, e, l) in
             grew-kept (lay .room) (c .left q a lq la (omega (arith, l)) lr) (λ x m. else .2 _ x (apart (q * g .letters + a) h n x ne m));
       }
-
--- what lies beyond the rows is left alone
-pub beyond-on : (rows h n : ℕ) (all₀ all all′ : List ℕ) → h < rows → Elsewhere 0 (rows * n) all₀ all → Elsewhere (h * n) n all all′ → Elsewhere 0 (rows * n) all₀ all′
-beyond-on rows h n all₀ all all′ l old one place x out =
-    one place x (inr (⊎-elim (λ k. absurd (omega (arith, k))) (λ k. omega (arith, k, next-row h rows n l)) out)) ∙ old place x out
-
-pub record Closing (rows n : ℕ) (all₀ new₀ added₀ all new added : List ℕ) (h : ℕ) : Type 0 where
-  pub below : h ≤ rows
-  pub areas : length all ≡ length all₀
-  pub news : length new ≡ length new₀
-  pub adds : length added ≡ length added₀
-  pub aside : Elsewhere 0 (rows * n) all₀ all
-  pub closes : (el : List ℕ) (g : PushdownGame) (es after : List Entry) → Layout el g n → Kept es after → HeadsHold el g n es all₀
-      → RowsGrew el g n es after rows added₀ → Closings el g n es after rows h all new added
-
-pub closing-starts : (rows n : ℕ) (all new added : List ℕ) → Closing rows n all new added all new added 0
-closing-starts rows n all new added =
-    record {
-      below = omega arith;
-      areas = refl;
-      news = refl;
-      adds = refl;
-      aside = λ place x out. refl;
-      closes =
-          λ el g es after lay kept hold grew.
-          record { done = λ q a lq la l. absurd (omega arith); hold = λ q a lq la l. hold q a lq la; left = λ q a lq la l lr. grew q a lq la lr };
-    }
-
-pub closing-ends : (rows n : ℕ) (all₀ new₀ added₀ all new added : List ℕ) (h : ℕ) → rows ≤ h → Closing rows n all₀ new₀ added₀ all new added h
-    → (el : List ℕ) (g : PushdownGame) (es after : List Entry) → Layout el g n → Kept es after → HeadsHold el g n es all₀
-    → RowsGrew el g n es after rows added₀ → Closings el g n es after rows rows all new added
-closing-ends rows n all₀ new₀ added₀ all new added h l c el g es after lay kept hold grew =
-    let e : h ≡ rows = omega (arith, l, c .below) in
-    subst (λ (k : ℕ). Closings el g n es after rows k all new added) e (c .closes el g es after lay kept hold grew)
 
 -- the rows before a number, and the others
 pub widths : (rows heads n : ℕ) → rows ≤ heads → rows * n + (heads - rows) * n ≡ heads * n

@@ -12,6 +12,7 @@ pub mod Members
 pub mod Gathering
 pub mod Naming
 pub mod ClosingHeads
+pub mod ClosingMasks
 pub mod RuleTurns
 pub mod RuleLoop
 pub mod Marking

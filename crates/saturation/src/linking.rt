@@ -31,7 +31,7 @@ pub fn link(
 }
 
 // Every number of a list set to one.
-fn fill(list: &mut [usize], number: usize)
+pub fn fill(list: &mut [usize], number: usize)
     ensures { λ _. ⌜ ((i : ℕ) → i < length (now (list .entry)) → getD (now (list .exit)) i 0 ≡ number) ⌝ }
     ensures { λ _. ⌜ length (now (list .exit)) ≡ length (now (list .entry)) ⌝ }
 {

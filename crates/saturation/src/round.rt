@@ -2,7 +2,6 @@
 use crate::closing::close_heads;
 use crate::heads::take_heads;
 use crate::lines::renew_lines;
-use crate::masks::set_masks;
 use crate::rules::Counts;
 use crate::rules::take_rules;
 use game::Sizes;
@@ -95,14 +94,17 @@ pub fn take_round(
     }
     let letters = sizes.letters as usize;
     close_heads(
-        (sizes.control as usize) * letters,
+        sizes.control as usize,
+        letters,
+        numbers,
         heads,
         n,
         all,
         new,
         added,
+        fresh,
+        alive,
     );
-    set_masks(elements, states, letters, heads, n, all, new, fresh, alive);
     counts
 }
 
