@@ -9,7 +9,7 @@ use mathlib.Core.Logic.{_⊎_, inl, inr, ⊎-elim}
 use mathlib.Core.Bool.{true, false}
 use mathlib.Core.List.{List}
 use lib.ListN.{length, getD, set, replicate, length-set}
-use lib.Bits.{bitOr, or-comm}
+use lib.Bits.{bitOr, or-comm, or-add-and, and-le-r}
 use lib.Dec.{eqb, ltb}
 use borrow.Author.Tests.{eqb-true, eqb-false, ltb-true, ltb-false}
 use Rattle.game.specs.Sets.{has, union}
@@ -78,9 +78,19 @@ pub record Placed (gathered : List ℕ) (word : ℕ) (old out : List ℕ) (p : �
   pub kept : (x : ℕ) → holds old 0 x ≡ true → holds out 0 x ≡ true
   pub into : (q s z : ℕ) → q < p → s < 64 → z < 64 → has (getD gathered q 0) s ≡ true → has word z ≡ true → holds out 0 (q * 64 + union s z) ≡ true
 
-pub placed-starts : (gathered : List ℕ) (word : ℕ) (old : List ℕ) → Placed gathered word old old 0
-placed-starts gathered word old =
-    record { from = λ x h. inl h; kept = λ x h. h; into = λ q s z l m k h g. absurd (omega arith) }
+-- no word is gathered below place i
+pub placed-starts : (gathered : List ℕ) (word : ℕ) (old : List ℕ) (n i : ℕ) (a : List ℕ) (at : ℕ) (none : List ℕ) → ((x : ℕ) → holds none 0 x ≡ false) → Gathered n i a at none gathered
+    → Placed gathered word old old i
+placed-starts gathered word old n i a at none empty got =
+    record {
+      from = λ x h. inl h;
+      kept = λ x h. h;
+      into =
+          λ q s z l m k h g.
+          ⊎-elim (λ u. clash u (empty (q * 64 + s)))
+          (λ u. absurd (omega (arith, l, or-add-and i (u .0), and-le-r i (u .0), u .2, word-is q s m)))
+          (got .from (q * 64 + s) (of-front gathered q s m ∙ h));
+    }
 
 module _ (gathered : List ℕ) (word : ℕ) (old out : List ℕ) (p : ℕ) (w : Placed gathered word old out p) where
   pub placed-skips : getD gathered p 0 ≡ 0 → Placed gathered word old out (p + 1)

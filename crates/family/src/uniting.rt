@@ -36,7 +36,8 @@ pub fn unite_into(
     }
 }
 
-// The same with the sets of word i of the second family: the words of the first that give one word of unions are joined before.
+// The same with the sets of word i of the second family: the words of the first that give one word of unions are joined before. None of
+// them stands below place i.
 fn unite_with(
     out: &mut [u64],
     a: &[u64],
@@ -54,7 +55,7 @@ fn unite_with(
 {
     let mut gathered = [0u64; 16];
     gather(&mut gathered, a, at, i, n);
-    let mut p = 0;
+    let mut p = i;
     while p < places {
         if gathered[p] != 0 {
             out[p] = out[p] | unite_by(raising, gathered[p], word);

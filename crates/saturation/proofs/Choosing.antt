@@ -11,7 +11,7 @@ use lib.Bits.{bitAnd, bitOr, bitXor}
 use lib.Dec.{eqb, ltb}
 use borrow.Author.Tests.{ltb-true, ltb-false}
 use Rattle.game.specs.Sets.{has, union}
-use Rattle.game.specs.SetLaws.{single-has, has-single}
+use Rattle.game.specs.SetLaws.{none-has, single-has, has-single}
 use Rattle.game.specs.ListLaws.{test, clash, both, conj, either, left-or, right-or, below-suc}
 use Rattle.game.specs.Game.{PushdownGame}
 use Rattle.table.specs.Table.{Entry}
@@ -210,6 +210,19 @@ module _ (head c letters heads n still alive : ℕ) (states raising new more₀ 
                     (test (ltb (y / 64) j))),
               );
         }
+
+  -- a word that has no set
+  pub running-skips : (more all keys rests hints : List ℕ) (count j : ℕ) → Running head c letters heads n still alive states raising new more₀ all₀ keys₀ rests₀ hints₀ count₀ more all keys rests hints count j
+      → j < n → head < heads → bitOr (getD all (head * n + j) 0) (getD new (head * n + j) 0) ≡ 0 → length keys ≡ length keys₀
+      → Running head c letters heads n still alive states raising new more₀ all₀ keys₀ rests₀ hints₀ count₀ more all keys rests hints count (j + 1)
+  running-skips more all keys rests hints count j w lj lh e lk =
+      running-on more all keys rests hints more all keys rests hints count count j 0 w lj lh
+      (λ ra s l. (λ h. clash h (none-has s), λ q. ⊎-elim (λ k. clash (right-or (has (getD all (head * n + j) 0) s) k) (none s)) (λ k. clash (left-or (has (getD new (head * n + j) 0) s) (k .0)) (none s)) (q .moves)))
+      (λ el g es ra lt small pool. (pool, sum-none el g n es c (OfWord 0 (j * 64)) more (λ y o. clash (o .2) (none-has (o .0)))))
+      (omega (arith, w .room, lk)) refl refl refl refl refl
+    where
+      none : (s : ℕ) → (has (getD all (head * n + j) 0) s || has (getD new (head * n + j) 0) s) ≡ false
+      none s = sym (has-or (getD all (head * n + j) 0) (getD new (head * n + j) 0) s) ∙ ap (λ (v : ℕ). has v s) e ∙ none-has s
 
   pub running-ends : (more all keys rests hints : List ℕ) (count j : ℕ) → n ≤ j
       → Running head c letters heads n still alive states raising new more₀ all₀ keys₀ rests₀ hints₀ count₀ more all keys rests hints count j

@@ -316,6 +316,12 @@ module _ (at head n size first rule : ℕ) (d all log₀ added₀ : List ℕ) (c
       inr (w .room, (now, t, record { from = λ q c z h. inl h; kept = λ q c z h. h; into = λ y m. clash (m .2) (ap (λ (v : ℕ). has v (m .0)) e ∙ none-has (m .0)) })))
       added (w .room) refl (sym (ap (set added (head * n + j)) (ap (bitOr (getD added (head * n + j) 0)) e ∙ or-zero-r (getD added (head * n + j) 0)) ∙ set-getD added (head * n + j) 0)) refl
 
+  -- a word that has no set
+  pub giving-skips : (log added : List ℕ) (count j : ℕ) → Giving at head n size first rule d all log₀ added₀ count₀ log added count j → j < n → head * n + n ≤ length added
+      → getD d (at + j) 0 ≡ 0 → Giving at head n size first rule d all log₀ added₀ count₀ log added count (j + 1)
+  giving-skips log added count j w lj la e =
+      giving-none log added count j 0 w lj la (λ s. (λ h. clash h (none-has s), λ h. clash (h .0) (ap (λ (v : ℕ). has v s) e ∙ none-has s))) refl
+
   pub giving-ends : (log added : List ℕ) (count j : ℕ) → n ≤ j → Giving at head n size first rule d all log₀ added₀ count₀ log added count j
       → (el : List ℕ) (g : PushdownGame) (es now : List Entry) (b p a : ℕ) → Layout el g n → Good g → Ascending es → AllRanged g es → Taking el g es b log₀ count₀ now
       → first ≡ firstWord p a b → p < g .control → a < g .letters → head ≡ p * g .letters + a → HeadsHold el g n es all → Adding el g n es now added₀

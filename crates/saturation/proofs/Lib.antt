@@ -23,3 +23,4 @@ pub mod HeadTurns
 pub mod Links
 pub mod AbelardHeads
 pub mod QuietRules
+pub mod Pairing

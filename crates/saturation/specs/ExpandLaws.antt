@@ -96,7 +96,7 @@ rows t (s ∷ el) least x =
     rearranged : (b p r k w e : ℕ) → w ≡ p * k → e ≡ r * k → b * w + e ≡ (b * p + r) * k
     rearranged b p r k w e h i = rw (h, i, add-mul, mul-assoc)
 
-or-times : (k a b : ℕ) → bitOr (a * 2 ^ k) (b * 2 ^ k) ≡ bitOr a b * 2 ^ k
+pub or-times : (k a b : ℕ) → bitOr (a * 2 ^ k) (b * 2 ^ k) ≡ bitOr a b * 2 ^ k
 or-times k a b =
     ap (λ (w : ℕ). bitOr w (b * 2 ^ k)) (sym (add-zero (a * 2 ^ k)))
     ∙ ap (bitOr (a * 2 ^ k + 0)) (sym (add-zero (b * 2 ^ k)))

@@ -1,6 +1,7 @@
 pub mod Expand
 pub mod UnionSteps
 pub mod ExpandLaws
+pub mod Filled
 pub mod Pool
 pub mod JoinLaws
 pub mod PoolLaws

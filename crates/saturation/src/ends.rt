@@ -291,7 +291,13 @@ fn add_runs(
     let mut lines = count;
     let mut j = 0;
     while j < n {
-        let word = picked(all[at + j], new[at + j], j, still, alive, raising);
+        let old = all[at + j];
+        let young = new[at + j];
+        if (old | young) == 0 {
+            j += 1;
+            continue;
+        }
+        let word = picked(old, young, j, still, alive, raising);
         lines = add_word(
             more,
             word,

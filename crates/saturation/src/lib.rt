@@ -12,6 +12,7 @@ mod lines;
 mod linking;
 mod masks;
 mod offers;
+mod pairs;
 mod round;
 mod rules;
 mod targets;

@@ -1,6 +1,7 @@
 // The families of the unions over a set and a letter: that of a head, where the set has one element, or a line. Lines are found by a
 // hint, which may be wrong, and made where they are missing, one element after another, the highest first. Where there is no room
 // for more, all lines are given up.
+use crate::pairs::unite_pair;
 use family::clear_at;
 use family::copy_at;
 use family::take_in;
@@ -250,11 +251,10 @@ fn line_for(
     }
     let family = before.family;
     let mut unions = [0u64; 16];
-    unite_into(
+    unite_pair(
         &mut unions,
         all,
         family * n,
-        all,
         head_of(states, s, letters, c) * n,
         raising,
         n,

@@ -79,7 +79,12 @@ pub fn offer(
     let mut entries = count;
     let mut j = 0;
     while j < n {
-        let word = unseen(d[at + j], all[head * n + j], added[head * n + j]);
+        let given = d[at + j];
+        if given == 0 {
+            j += 1;
+            continue;
+        }
+        let word = unseen(given, all[head * n + j], added[head * n + j]);
         if word != 0 {
             entries = note_word(log, entries, size, word, j * 64, first, rule);
             if size < entries {

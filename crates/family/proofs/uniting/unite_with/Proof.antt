@@ -20,7 +20,7 @@ gather-requires : tie.Need-gather-requires Inv-loop μ-loop
 gather-requires c κs = (refl, c .before .before .before .before .pre .1, c .before .before .before .before .pre .2, c .before .before .before .before .pre .4)
 
 loop-holds : tie.Need-loop-holds Inv-loop μ-loop
-loop-holds c = (refl, λ r. placed-starts _ _ _)
+loop-holds c = (refl, λ r. placed-starts _ _ _ _ _ _ _ _ (none-held 16) (c .gather .ensures))
 
 mul-if1 : tie.Need-mul-if1 Inv-loop μ-loop
 mul-if1 c = omega (arith, c .before .before .before .before .before .before .before .pre .5, c .loop-test .taken)

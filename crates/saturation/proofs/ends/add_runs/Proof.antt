@@ -4,7 +4,7 @@ use native.Mathlib.Omega.{arith}
 use mathlib.Core.Path.{sym, _∙_}
 use Rattle.saturation.proofs.Passes.{place-small}
 use Rattle.saturation.proofs.Making.{fits-on, within-area}
-use Rattle.saturation.proofs.Choosing.{Running, running-starts, running-on, running-ends}
+use Rattle.saturation.proofs.Choosing.{Running, running-starts, running-on, running-skips, running-ends}
 use Rattle.saturation.proofs.ends.add_runs.Statement.{statement}
 use Rattle.saturation.proofs.ends.add_runs.Tie as tie
 use Rattle.saturation.proofs.ends.add_runs.Reads as reads
@@ -20,83 +20,95 @@ abbrev μ-loop : tie.MeasureT-loop
 μ-loop more₀ head c states letters heads n all₀ new count keys₀ rests₀ hints₀ still alive raising at lines₀ j₀ more all keys rests hints lines j =
     n - j
 
--- src/ends.rt:53:14
+-- src/ends.rt:290:14
 mul-at : tie.Need-mul-at Inv-loop μ-loop
 mul-at c = (let few = c .before .before .before .before .before .before .before .before .pre .0 .few in omega (arith, place-small (c .before .before .before .before .before .before .before .before .args .head) _ (omega (arith, few, c .before .before .before .before .before .before .before .before .pre .6)) (c .before .before .before .before .before .before .before .before .pre .0 .words)))
 
--- src/ends.rt:56:5
+-- src/ends.rt:293:5
 loop-holds : tie.Need-loop-holds Inv-loop μ-loop
 loop-holds c = running-starts _ _ _ _ _ _ _ _ _ _ _ _ _ _ _ _ (c .before .before .before .before .before .before .before .before .pre .3)
 
--- src/ends.rt:57:31
-add-picked : tie.Need-add-picked Inv-loop μ-loop
-add-picked c = (let few = c .before .before .before .before .before .before .before .before .before .before .pre .0 .few in omega (arith, place-small (c .before .before .before .before .before .before .before .before .before .before .args .head) _ (omega (arith, few, c .before .before .before .before .before .before .before .before .before .before .pre .6)) (c .before .before .before .before .before .before .before .before .before .before .pre .0 .words), c .loop-test .taken))
+-- src/ends.rt:294:23
+add-old : tie.Need-add-old Inv-loop μ-loop
+add-old c = (let few = c .before .before .before .before .before .before .before .before .before .before .pre .0 .few in omega (arith, place-small (c .before .before .before .before .before .before .before .before .before .before .args .head) _ (omega (arith, few, c .before .before .before .before .before .before .before .before .before .before .pre .6)) (c .before .before .before .before .before .before .before .before .before .before .pre .0 .words), c .loop-test .taken))
 
--- src/ends.rt:57:27
-mul-picked : tie.Need-mul-picked Inv-loop μ-loop
-mul-picked c = (let few = c .before .before .before .before .before .before .before .before .before .before .pre .0 .few in omega (arith, place-small (c .before .before .before .before .before .before .before .before .before .before .args .head) _ (omega (arith, few, c .before .before .before .before .before .before .before .before .before .before .pre .6)) (c .before .before .before .before .before .before .before .before .before .before .pre .0 .words), c .loop-test .taken))
+-- src/ends.rt:294:19
+mul-old : tie.Need-mul-old Inv-loop μ-loop
+mul-old c = (let few = c .before .before .before .before .before .before .before .before .before .before .pre .0 .few in omega (arith, place-small (c .before .before .before .before .before .before .before .before .before .before .args .head) _ (omega (arith, few, c .before .before .before .before .before .before .before .before .before .before .pre .6)) (c .before .before .before .before .before .before .before .before .before .before .pre .0 .words), c .loop-test .taken))
 
--- src/ends.rt:57:27
-slice-read-picked : tie.Need-slice-read-picked Inv-loop μ-loop
-slice-read-picked c = omega (arith, within-area _ _ _ _ _ _ _ _ (c .before .before .before .before .before .before .before .before .before .before .before .pre .0) (c .before .before .before .before .before .before .before .before .before .before .before .args .head) 0 (omega (arith, c .before .before .before .before .before .before .before .before .before .before .before .pre .6)) (omega arith), c .before .loop-test .taken, c .before .before .loop .inv .areas)
+-- src/ends.rt:294:19
+slice-read-old : tie.Need-slice-read-old Inv-loop μ-loop
+slice-read-old c = omega (arith, within-area _ _ _ _ _ _ _ _ (c .before .before .before .before .before .before .before .before .before .before .before .pre .0) (c .before .before .before .before .before .before .before .before .before .before .before .args .head) 0 (omega (arith, c .before .before .before .before .before .before .before .before .before .before .before .pre .6)) (omega arith), c .before .loop-test .taken, c .before .before .loop .inv .areas)
 
--- src/ends.rt:57:44
-add-picked-2 : tie.Need-add-picked-2 Inv-loop μ-loop
-add-picked-2 c = (let few = c .before .before .before .before .before .before .before .before .before .before .before .pre .0 .few in omega (arith, place-small (c .before .before .before .before .before .before .before .before .before .before .before .args .head) _ (omega (arith, few, c .before .before .before .before .before .before .before .before .before .before .before .pre .6)) (c .before .before .before .before .before .before .before .before .before .before .before .pre .0 .words), c .before .loop-test .taken))
+-- src/ends.rt:295:25
+add-young : tie.Need-add-young Inv-loop μ-loop
+add-young c = (let few = c .before .before .before .before .before .before .before .before .before .before .before .pre .0 .few in omega (arith, place-small (c .before .before .before .before .before .before .before .before .before .before .before .args .head) _ (omega (arith, few, c .before .before .before .before .before .before .before .before .before .before .before .pre .6)) (c .before .before .before .before .before .before .before .before .before .before .before .pre .0 .words), c .before .loop-test .taken))
 
--- src/ends.rt:57:40
-mul-picked-2 : tie.Need-mul-picked-2 Inv-loop μ-loop
-mul-picked-2 c = (let few = c .before .before .before .before .before .before .before .before .before .before .before .pre .0 .few in omega (arith, place-small (c .before .before .before .before .before .before .before .before .before .before .before .args .head) _ (omega (arith, few, c .before .before .before .before .before .before .before .before .before .before .before .pre .6)) (c .before .before .before .before .before .before .before .before .before .before .before .pre .0 .words), c .before .loop-test .taken))
+-- src/ends.rt:295:21
+mul-young : tie.Need-mul-young Inv-loop μ-loop
+mul-young c = (let few = c .before .before .before .before .before .before .before .before .before .before .before .pre .0 .few in omega (arith, place-small (c .before .before .before .before .before .before .before .before .before .before .before .args .head) _ (omega (arith, few, c .before .before .before .before .before .before .before .before .before .before .before .pre .6)) (c .before .before .before .before .before .before .before .before .before .before .before .pre .0 .words), c .before .loop-test .taken))
 
--- src/ends.rt:57:40
-shared-slice-read-picked : tie.Need-shared-slice-read-picked Inv-loop μ-loop
-shared-slice-read-picked c = omega (arith, within-area _ _ _ _ _ _ _ _ (c .before .before .before .before .before .before .before .before .before .before .before .before .pre .0) (c .before .before .before .before .before .before .before .before .before .before .before .before .args .head) 0 (omega (arith, c .before .before .before .before .before .before .before .before .before .before .before .before .pre .6)) (omega arith), c .before .before .loop-test .taken, c .before .before .before .before .before .before .before .before .before .before .before .before .pre .7)
+-- src/ends.rt:295:21
+shared-slice-read-young : tie.Need-shared-slice-read-young Inv-loop μ-loop
+shared-slice-read-young c = omega (arith, within-area _ _ _ _ _ _ _ _ (c .before .before .before .before .before .before .before .before .before .before .before .before .pre .0) (c .before .before .before .before .before .before .before .before .before .before .before .before .args .head) 0 (omega (arith, c .before .before .before .before .before .before .before .before .before .before .before .before .pre .6)) (omega arith), c .before .before .loop-test .taken, c .before .before .before .before .before .before .before .before .before .before .before .before .pre .7)
 
--- src/ends.rt:57:13
-picked-requires : tie.Need-picked-requires Inv-loop μ-loop
-picked-requires c κs = (omega (arith, c .before .before .loop-test .taken, c .before .before .before .before .before .before .before .before .before .before .before .before .pre .0 .words), c .before .before .before .before .before .before .before .before .before .before .before .before .pre .8, c .before .before .before .before .before .before .before .before .before .before .before .before .pre .9, c .before .before .before .before .before .before .before .before .before .before .before .before .pre .4)
-
--- src/ends.rt:58:38
-mul-add-word : tie.Need-mul-add-word Inv-loop μ-loop
-mul-add-word c = omega (arith, c .before .before .before .before .loop-test .taken, c .before .before .before .before .before .before .before .before .before .before .before .before .before .before .pre .0 .words)
-
--- src/ends.rt:58:9
-add-word-requires : tie.Need-add-word-requires Inv-loop μ-loop
-add-word-requires c κs = (fits-on (c .before .before .before .before .before .before .before .before .before .before .before .before .before .before .before .before .before .before .pre .0) (c .before .before .before .before .before .before .before .before .before .loop .inv .areas) (c .before .before .before .before .before .before .before .before .before .loop .inv .keyed) (c .before .before .before .before .before .before .before .before .before .loop .inv .resting) (c .before .before .before .before .before .before .before .before .before .loop .inv .hinting), c .before .before .before .before .before .before .before .before .before .before .before .before .before .before .before .before .before .before .pre .1, c .before .before .before .before .before .before .before .before .before .before .before .before .before .before .before .before .before .before .pre .2, omega (arith, c .before .before .before .before .before .before .before .before .before .loop .inv .room, c .before .before .before .before .before .before .before .before .before .loop .inv .keyed), c .before .before .before .before .before .before .before .before .before .before .before .before .before .before .before .before .before .before .pre .4, omega (arith, c .before .before .before .before .before .before .before .before .before .before .before .before .before .before .before .before .before .before .pre .5, c .before .before .before .before .before .before .before .before .before .loop .inv .mores), omega (arith, c .before .before .before .before .before .before .before .before .loop-test .taken, c .before .before .before .before .before .before .before .before .before .before .before .before .before .before .before .before .before .before .pre .0 .words), c .before .before .before .before .before .picked .ensures .1)
-
--- src/ends.rt:59:9
+-- src/ends.rt:297:13
 add-j : tie.Need-add-j Inv-loop μ-loop
-add-j c = omega (arith, c .before .before .before .before .before .before .before .before .before .before .before .before .before .before .before .before .before .before .before .loop-test .taken, c .before .before .before .before .before .before .before .before .before .before .before .before .before .before .before .before .before .before .before .before .before .before .before .before .before .before .before .before .before .pre .0 .words)
+add-j c = omega (arith, c .before .before .before .loop-test .taken, c .before .before .before .before .before .before .before .before .before .before .before .before .before .pre .0 .words)
 
--- src/ends.rt:56:5
+-- src/ends.rt:293:5
 loop-less : tie.Need-loop-less Inv-loop μ-loop
-loop-less c = omega (arith, c .before .before .before .before .before .before .before .before .before .before .before .before .before .before .before .before .before .before .before .loop-test .taken)
+loop-less c = omega (arith, c .before .before .before .loop-test .taken)
 
--- src/ends.rt:56:5
+-- src/ends.rt:293:5
 loop-again : tie.Need-loop-again Inv-loop μ-loop
-loop-again c = running-on _ _ _ _ _ _ _ _ _ _ _ _ _ _ _ _ _ _ _ _ _ _ _ _ _ _ _ _ _ _ (c .before .before .before .before .before .before .before .before .before .before .before .before .before .before .before .before .before .before .before .before .loop .inv) (c .before .before .before .before .before .before .before .before .before .before .before .before .before .before .before .before .before .before .before .loop-test .taken) (c .before .before .before .before .before .before .before .before .before .before .before .before .before .before .before .before .before .before .before .before .before .before .before .before .before .before .before .before .before .pre .6) (c .before .before .before .before .before .before .before .before .before .before .before .before .before .before .before .before .picked .ensures .0) (c .before .before .before .before .before .before .before .before .before .before .add-word .ensures .0) (c .before .before .before .before .before .before .before .before .before .before .add-word .ensures .1 .0) (c .before .before .before .before .before .before .before .before .before .before .add-word .ensures .1 .1 .0) (c .before .before .before .before .before .before .before .before .before .before .add-word .ensures .1 .1 .1 .0) (c .before .before .before .before .before .before .before .before .before .before .add-word .ensures .1 .1 .1 .1 .0) (c .before .before .before .before .before .before .before .before .before .before .add-word .ensures .1 .1 .1 .1 .1 .0) (c .before .before .before .before .before .before .before .before .before .before .add-word .ensures .1 .1 .1 .1 .1 .1)
+loop-again c = running-skips _ _ _ _ _ _ _ _ _ _ _ _ _ _ _ _ _ _ _ _ _ _ _ (c .before .before .before .before .loop .inv) (c .before .before .before .loop-test .taken) (c .before .before .before .before .before .before .before .before .before .before .before .before .before .pre .6) (c .if1 .taken) (c .before .before .before .before .loop .inv .keyed)
 
--- src/ends.rt:21:1
+-- src/ends.rt:300:13
+picked-requires : tie.Need-picked-requires Inv-loop μ-loop
+picked-requires c κs = (omega (arith, c .before .before .before .loop-test .taken, c .before .before .before .before .before .before .before .before .before .before .before .before .before .pre .0 .words), c .before .before .before .before .before .before .before .before .before .before .before .before .before .pre .8, c .before .before .before .before .before .before .before .before .before .before .before .before .before .pre .9, c .before .before .before .before .before .before .before .before .before .before .before .before .before .pre .4)
+
+-- src/ends.rt:304:13
+mul-add-word : tie.Need-mul-add-word Inv-loop μ-loop
+mul-add-word c = omega (arith, c .before .before .before .before .before .loop-test .taken, c .before .before .before .before .before .before .before .before .before .before .before .before .before .before .before .pre .0 .words)
+
+-- src/ends.rt:301:9
+add-word-requires : tie.Need-add-word-requires Inv-loop μ-loop
+add-word-requires c κs = (fits-on (c .before .before .before .before .before .before .before .before .before .before .before .before .before .before .before .before .before .before .before .pre .0) (c .before .before .before .before .before .before .before .before .before .before .loop .inv .areas) (c .before .before .before .before .before .before .before .before .before .before .loop .inv .keyed) (c .before .before .before .before .before .before .before .before .before .before .loop .inv .resting) (c .before .before .before .before .before .before .before .before .before .before .loop .inv .hinting), c .before .before .before .before .before .before .before .before .before .before .before .before .before .before .before .before .before .before .before .pre .1, c .before .before .before .before .before .before .before .before .before .before .before .before .before .before .before .before .before .before .before .pre .2, omega (arith, c .before .before .before .before .before .before .before .before .before .before .loop .inv .room, c .before .before .before .before .before .before .before .before .before .before .loop .inv .keyed), c .before .before .before .before .before .before .before .before .before .before .before .before .before .before .before .before .before .before .before .pre .4, omega (arith, c .before .before .before .before .before .before .before .before .before .before .before .before .before .before .before .before .before .before .before .pre .5, c .before .before .before .before .before .before .before .before .before .before .loop .inv .mores), omega (arith, c .before .before .before .before .before .before .before .before .before .loop-test .taken, c .before .before .before .before .before .before .before .before .before .before .before .before .before .before .before .before .before .before .before .pre .0 .words), c .before .before .before .before .before .picked .ensures .1)
+
+-- src/ends.rt:317:9
+add-j-2 : tie.Need-add-j-2 Inv-loop μ-loop
+add-j-2 c = omega (arith, c .before .before .before .before .before .before .before .before .before .before .before .before .before .before .before .before .before .before .before .before .loop-test .taken, c .before .before .before .before .before .before .before .before .before .before .before .before .before .before .before .before .before .before .before .before .before .before .before .before .before .before .before .before .before .before .pre .0 .words)
+
+-- src/ends.rt:293:5
+loop-less-2 : tie.Need-loop-less-2 Inv-loop μ-loop
+loop-less-2 c = omega (arith, c .before .before .before .before .before .before .before .before .before .before .before .before .before .before .before .before .before .before .before .before .loop-test .taken)
+
+-- src/ends.rt:293:5
+loop-again-2 : tie.Need-loop-again-2 Inv-loop μ-loop
+loop-again-2 c = running-on _ _ _ _ _ _ _ _ _ _ _ _ _ _ _ _ _ _ _ _ _ _ _ _ _ _ _ _ _ _ (c .before .before .before .before .before .before .before .before .before .before .before .before .before .before .before .before .before .before .before .before .before .loop .inv) (c .before .before .before .before .before .before .before .before .before .before .before .before .before .before .before .before .before .before .before .before .loop-test .taken) (c .before .before .before .before .before .before .before .before .before .before .before .before .before .before .before .before .before .before .before .before .before .before .before .before .before .before .before .before .before .before .pre .6) (c .before .before .before .before .before .before .before .before .before .before .before .before .before .before .before .before .picked .ensures .0) (c .before .before .before .before .before .before .before .before .before .before .add-word .ensures .0) (c .before .before .before .before .before .before .before .before .before .before .add-word .ensures .1 .0) (c .before .before .before .before .before .before .before .before .before .before .add-word .ensures .1 .1 .0) (c .before .before .before .before .before .before .before .before .before .before .add-word .ensures .1 .1 .1 .0) (c .before .before .before .before .before .before .before .before .before .before .add-word .ensures .1 .1 .1 .1 .0) (c .before .before .before .before .before .before .before .before .before .before .add-word .ensures .1 .1 .1 .1 .1 .0) (c .before .before .before .before .before .before .before .before .before .before .add-word .ensures .1 .1 .1 .1 .1 .1)
+
+-- src/ends.rt:258:1
 same-length : tie.Need-same-length Inv-loop μ-loop
 same-length c = c .before .loop .inv .mores
 
--- src/ends.rt:21:1
+-- src/ends.rt:258:1
 same-length-2 : tie.Need-same-length-2 Inv-loop μ-loop
 same-length-2 c = c .before .loop .inv .areas
 
--- src/ends.rt:21:1
+-- src/ends.rt:258:1
 same-length-3 : tie.Need-same-length-3 Inv-loop μ-loop
 same-length-3 c = c .before .loop .inv .keyed
 
--- src/ends.rt:21:1
+-- src/ends.rt:258:1
 same-length-4 : tie.Need-same-length-4 Inv-loop μ-loop
 same-length-4 c = c .before .loop .inv .resting
 
--- src/ends.rt:21:1
+-- src/ends.rt:258:1
 same-length-5 : tie.Need-same-length-5 Inv-loop μ-loop
 same-length-5 c = c .before .loop .inv .hinting
 
--- src/ends.rt:21:1
+-- src/ends.rt:258:1
 returns : tie.Need-returns Inv-loop μ-loop
 returns c = (running-ends _ _ _ _ _ _ _ _ _ _ _ _ _ _ _ _ _ _ _ _ _ _ _ (c .loop-test .left) (c .before .loop .inv), (c .before .loop .inv .room, (c .before .loop .inv .mores, (c .before .loop .inv .areas, (c .before .loop .inv .keyed, (c .before .loop .inv .resting, c .before .loop .inv .hinting))))))
 
@@ -108,18 +120,21 @@ add-runs-spec =
     μ-loop
     mul-at
     loop-holds
-    add-picked
-    mul-picked
-    slice-read-picked
-    add-picked-2
-    mul-picked-2
-    shared-slice-read-picked
-    picked-requires
-    mul-add-word
-    add-word-requires
+    add-old
+    mul-old
+    slice-read-old
+    add-young
+    mul-young
+    shared-slice-read-young
     add-j
     loop-less
     loop-again
+    picked-requires
+    mul-add-word
+    add-word-requires
+    add-j-2
+    loop-less-2
+    loop-again-2
     same-length
     same-length-2
     same-length-3

@@ -14,7 +14,7 @@ use Rattle.saturation.proofs.lines.line_for.Tie as tie
 use Rattle.saturation.proofs.lines.line_for.Reads as reads
 use Rattle.saturation.proofs.lines.line_for.Lts as lts
 use Rattle.family.proofs.copy_at.Reads as copy-at-reads
-use Rattle.family.proofs.unite_into.Reads as unite-into-reads
+use Rattle.saturation.proofs.pairs.unite_pair.Reads as unite-pair-reads
 use Rattle.saturation.proofs.lines.head_of.Reads as head-of-reads
 use Rattle.saturation.proofs.lines.hint_at.Reads as hint-at-reads
 use Rattle.saturation.proofs.lines.is_line.Reads as is-line-reads
@@ -46,24 +46,24 @@ returns : tie.Need-returns
 returns c = (λ el g es z ra lt lc ls ly lz added pool named. (pool, of-line _ (c .before .is-line .ensures (c .if1 .taken) .0) refl (c .before .is-line .ensures (c .if1 .taken) .1)), ((omega (arith, c .before .is-line .ensures (c .if1 .taken) .0), omega arith), (refl, (refl, (refl, refl)))))
 
 -- src/lines.rt:206:16
-slice-aggregate-unite-into : tie.Need-slice-aggregate-unite-into
-slice-aggregate-unite-into c = search needs
+slice-aggregate-unite-pair : tie.Need-slice-aggregate-unite-pair
+slice-aggregate-unite-pair c = search needs
 
 -- src/lines.rt:206:34
-mul-unite-into : tie.Need-mul-unite-into
-mul-unite-into c = (let few = c .before .before .before .before .before .before .before .before .before .before .before .before .before .pre .0 .few in let most = c .before .before .before .before .before .before .before .before .before .before .before .before .before .pre .0 .most in omega (arith, place-small (c .before .before .before .before .before .before .before .before .before .before .before .before .before .args .before .family) _ (omega (arith, few, most, c .before .before .before .before .before .before .before .before .before .before .before .before .before .pre)) (c .before .before .before .before .before .before .before .before .before .before .before .before .before .pre .0 .words)))
+mul-unite-pair : tie.Need-mul-unite-pair
+mul-unite-pair c = (let few = c .before .before .before .before .before .before .before .before .before .before .before .before .before .pre .0 .few in let most = c .before .before .before .before .before .before .before .before .before .before .before .before .before .pre .0 .most in omega (arith, place-small (c .before .before .before .before .before .before .before .before .before .before .before .before .before .args .before .family) _ (omega (arith, few, most, c .before .before .before .before .before .before .before .before .before .before .before .before .before .pre)) (c .before .before .before .before .before .before .before .before .before .before .before .before .before .pre .0 .words)))
 
 -- src/lines.rt:206:51
 head-of-requires : tie.Need-head-of-requires
 head-of-requires c κs = search needs
 
 -- src/lines.rt:206:51
-mul-unite-into-2 : tie.Need-mul-unite-into-2
-mul-unite-into-2 c = (let few = c .before .before .before .before .before .before .before .before .before .before .before .before .before .before .pre .0 .few in omega (arith, place-small (c .head-of .result) _ (omega (arith, few, head-within _ _ _ _ _ _ _ _ (c .before .before .before .before .before .before .before .before .before .before .before .before .before .before .pre .0) _ _ _ (c .before .before .before .before .before .before .before .before .before .before .before .before .before .before .pre .2) (c .before .before .before .before .before .before .before .before .before .before .before .before .before .before .pre .3) (c .head-of .ensures))) (c .before .before .before .before .before .before .before .before .before .before .before .before .before .before .pre .0 .words)))
+mul-unite-pair-2 : tie.Need-mul-unite-pair-2
+mul-unite-pair-2 c = (let few = c .before .before .before .before .before .before .before .before .before .before .before .before .before .before .pre .0 .few in omega (arith, place-small (c .head-of .result) _ (omega (arith, few, head-within _ _ _ _ _ _ _ _ (c .before .before .before .before .before .before .before .before .before .before .before .before .before .before .pre .0) _ _ _ (c .before .before .before .before .before .before .before .before .before .before .before .before .before .before .pre .2) (c .before .before .before .before .before .before .before .before .before .before .before .before .before .before .pre .3) (c .head-of .ensures))) (c .before .before .before .before .before .before .before .before .before .before .before .before .before .before .pre .0 .words)))
 
 -- src/lines.rt:206:5
-unite-into-requires : tie.Need-unite-into-requires
-unite-into-requires c κs = (le-refl 16, within-area _ _ _ _ _ _ _ _ (c .before .before .before .before .before .before .before .before .before .before .before .before .before .before .pre .0) _ _ (c .before .before .before .before .before .before .before .before .before .before .before .before .before .before .pre .6) (omega (arith, c .before .before .before .before .before .before .before .before .before .before .before .before .before .before .pre .5)), within-area _ _ _ _ _ _ _ _ (c .before .before .before .before .before .before .before .before .before .before .before .before .before .before .pre .0) _ 0 (omega (arith, head-within _ _ _ _ _ _ _ _ (c .before .before .before .before .before .before .before .before .before .before .before .before .before .before .pre .0) _ _ _ (c .before .before .before .before .before .before .before .before .before .before .before .before .before .before .pre .2) (c .before .before .before .before .before .before .before .before .before .before .before .before .before .before .pre .3) (c .head-of .ensures))) (omega arith), c .before .before .before .before .before .before .before .before .before .before .before .before .before .before .pre .7, c .before .before .before .before .before .before .before .before .before .before .before .before .before .before .pre .0 .words)
+unite-pair-requires : tie.Need-unite-pair-requires
+unite-pair-requires c κs = (le-refl 16, within-area _ _ _ _ _ _ _ _ (c .before .before .before .before .before .before .before .before .before .before .before .before .before .before .pre .0) _ _ (c .before .before .before .before .before .before .before .before .before .before .before .before .before .before .pre .6) (omega (arith, c .before .before .before .before .before .before .before .before .before .before .before .before .before .before .pre .5)), within-area _ _ _ _ _ _ _ _ (c .before .before .before .before .before .before .before .before .before .before .before .before .before .before .pre .0) _ 0 (omega (arith, head-within _ _ _ _ _ _ _ _ (c .before .before .before .before .before .before .before .before .before .before .before .before .before .before .pre .0) _ _ _ (c .before .before .before .before .before .before .before .before .before .before .before .before .before .before .pre .2) (c .before .before .before .before .before .before .before .before .before .before .before .before .before .before .pre .3) (c .head-of .ensures))) (omega arith), c .before .before .before .before .before .before .before .before .before .before .before .before .before .before .pre .7, c .before .before .before .before .before .before .before .before .before .before .before .before .before .before .pre .0 .words, (let few = c .before .before .before .before .before .before .before .before .before .before .before .before .before .before .pre .0 .few in let most = c .before .before .before .before .before .before .before .before .before .before .before .before .before .before .pre .0 .most in omega (arith, place-small (c .before .before .before .before .before .before .before .before .before .before .before .before .before .before .args .before .family) _ (omega (arith, few, most, c .before .before .before .before .before .before .before .before .before .before .before .before .before .before .pre)) (c .before .before .before .before .before .before .before .before .before .before .before .before .before .before .pre .0 .words))), (let few = c .before .before .before .before .before .before .before .before .before .before .before .before .before .before .pre .0 .few in omega (arith, place-small (c .head-of .result) _ (omega (arith, few, head-within _ _ _ _ _ _ _ _ (c .before .before .before .before .before .before .before .before .before .before .before .before .before .before .pre .0) _ _ _ (c .before .before .before .before .before .before .before .before .before .before .before .before .before .before .pre .2) (c .before .before .before .before .before .before .before .before .before .before .before .before .before .before .pre .3) (c .head-of .ensures))) (c .before .before .before .before .before .before .before .before .before .before .before .before .before .before .pre .0 .words))))
 
 -- src/lines.rt:207:19
 add-copy-at : tie.Need-add-copy-at
@@ -79,7 +79,7 @@ slice-aggregate-copy-at c = search needs
 
 -- src/lines.rt:207:5
 copy-at-requires : tie.Need-copy-at-requires
-copy-at-requires c κs = (within-area _ _ _ _ _ _ _ _ (c .before .before .before .before .before .before .before .before .before .before .before .before .before .before .before .before .before .before .pre .0) (c .before .before .before .before .before .before .before .before .before .before .before .before .before .before .before .before .before .before .args .heads + c .before .before .before .before .before .before .before .before .before .before .before .before .before .before .before .before .before .before .args .before .count) (c .before .before .before .before .before .before .before .before .before .before .before .before .before .before .before .before .before .before .args .before .count + 1) (omega arith) (omega (arith, c .before .before .before .before .before .before .before .before .before .before .before .before .before .before .before .before .before .before .pre .5)), omega (arith, c .before .before .before .unite-into .ensures .1, c .before .before .before .before .before .before .before .before .before .before .before .before .before .before .before .before .before .before .pre .0 .words))
+copy-at-requires c κs = (within-area _ _ _ _ _ _ _ _ (c .before .before .before .before .before .before .before .before .before .before .before .before .before .before .before .before .before .before .pre .0) (c .before .before .before .before .before .before .before .before .before .before .before .before .before .before .before .before .before .before .args .heads + c .before .before .before .before .before .before .before .before .before .before .before .before .before .before .before .before .before .before .args .before .count) (c .before .before .before .before .before .before .before .before .before .before .before .before .before .before .before .before .before .before .args .before .count + 1) (omega arith) (omega (arith, c .before .before .before .before .before .before .before .before .before .before .before .before .before .before .before .before .before .before .pre .5)), omega (arith, c .before .before .before .unite-pair .ensures .1, c .before .before .before .before .before .before .before .before .before .before .before .before .before .before .before .before .before .before .pre .0 .words))
 
 -- src/lines.rt:208:19
 key-of-requires : tie.Need-key-of-requires
@@ -126,8 +126,8 @@ add-t30 : tie.Need-add-t30
 add-t30 c = (let few = c .before .before .before .before .before .before .before .before .before .before .before .before .before .before .before .before .before .before .before .before .before .before .before .pre .0 .few in let most = c .before .before .before .before .before .before .before .before .before .before .before .before .before .before .before .before .before .before .before .before .before .before .before .pre .0 .most in omega (arith, few, most, c .before .before .before .before .before .before .before .before .before .before .before .before .before .before .before .before .before .before .before .before .before .before .before .pre .5))
 
 -- src/lines.rt:212:43
-add-t33 : tie.Need-add-t33
-add-t33 c = (let most = c .before .before .before .before .before .before .before .before .before .before .before .before .before .before .before .before .before .before .before .before .before .before .before .pre .0 .most in omega (arith, most, c .before .before .before .before .before .before .before .before .before .before .before .before .before .before .before .before .before .before .before .before .before .before .before .pre .5))
+add-t31 : tie.Need-add-t31
+add-t31 c = (let most = c .before .before .before .before .before .before .before .before .before .before .before .before .before .before .before .before .before .before .before .before .before .before .before .pre .0 .most in omega (arith, most, c .before .before .before .before .before .before .before .before .before .before .before .before .before .before .before .before .before .before .before .before .before .before .before .pre .5))
 
 -- src/lines.rt:174:1
 same-length-3 : tie.Need-same-length-3
@@ -147,7 +147,7 @@ same-length-6 c = search needs
 
 -- src/lines.rt:174:1
 returns-2 : tie.Need-returns-2
-returns-2 c = (made _ _ _ _ _ _ _ _ _ _ _ _ _ (c .before .key-of .result) (c .before .before .before .before .before .before .before .before .before .head-of .result) _ _ (c .before .before .before .before .before .before .before .before .before .before .before .before .before .before .before .before .before .before .before .before .before .before .before .pre .5) (c .before .before .before .before .before .before .before .before .before .before .before .before .before .before .before .before .before .before .before .before .before .before .before .pre .0 .same) (c .before .key-of .ensures) (c .before .before .before .before .before .before .before .before .before .head-of .ensures) (c .before .before .before .before .before .before .before .before .unite-into .ensures .0) (c .before .before .before .before .copy-at .ensures .0), ((omega arith, le-refl _), (c .before .before .before .before .copy-at .ensures .1, (simp length-set, (simp length-set, simp length-set)))))
+returns-2 c = (made _ _ _ _ _ _ _ _ _ _ _ _ _ (c .before .key-of .result) (c .before .before .before .before .before .before .before .before .before .head-of .result) _ _ (c .before .before .before .before .before .before .before .before .before .before .before .before .before .before .before .before .before .before .before .before .before .before .before .pre .5) (c .before .before .before .before .before .before .before .before .before .before .before .before .before .before .before .before .before .before .before .before .before .before .before .pre .0 .same) (c .before .key-of .ensures) (c .before .before .before .before .before .before .before .before .before .head-of .ensures) (c .before .before .before .before .before .before .before .before .unite-pair .ensures .0) (c .before .before .before .before .copy-at .ensures .0), ((omega arith, le-refl _), (c .before .before .before .before .copy-at .ensures .1, (simp length-set, (simp length-set, simp length-set)))))
 
 pub line-for-spec : {M : Type 1} → statement M
 line-for-spec =
@@ -159,11 +159,11 @@ line-for-spec =
     same-length
     same-length-2
     returns
-    slice-aggregate-unite-into
-    mul-unite-into
+    slice-aggregate-unite-pair
+    mul-unite-pair
     head-of-requires
-    mul-unite-into-2
-    unite-into-requires
+    mul-unite-pair-2
+    unite-pair-requires
     add-copy-at
     mul-copy-at
     slice-aggregate-copy-at
@@ -179,7 +179,7 @@ line-for-spec =
     mul-hints
     slice-write-hints
     add-t30
-    add-t33
+    add-t31
     same-length-3
     same-length-4
     same-length-5
