@@ -337,29 +337,7 @@ pass-states-mul-still-late t c = omega (arith, c .before .if1 .left, c .before .
 pass-states-mul-still-late-2 : (t : ℕ) → pass-states-lts.Need-mul-still-late-2 (pass-states-claims t) (pass-states-at t) pass-states.Post pass-states-Inv-loop pass-states-μ-loop
 pass-states-mul-still-late-2 t c = omega (arith, c .before .if1 .left, c .before .before .before .before .before .end-at .ensures .0, c .before .before .before .before .before .before .before .before .before .before .before .before .before .before .before .before .before .before .before .before .before .pre .1 .0 .entries, c .before .before .before .before .before .before .before .before .before .before .before .before .before .before .before .before .before .before .before .before .before .good)
 
-pass-states-shared-slice-read-still-late :
-    (t : ℕ) → pass-states-lts.Need-shared-slice-read-still-late (
-      tag-of-reads.Asked,
-      tag-of-reads.Learnt,
-      fresh-on-reads.Asked,
-      fresh-on-reads.Learnt,
-      highest-reads.Asked,
-      highest-reads.Learnt,
-      start-at-reads.Asked,
-      start-at-reads.Learnt,
-      end-at-reads.Asked,
-      end-at-reads.Learnt,
-      older-below-reads.Asked,
-      older-below-reads.Learnt,
-      next-open-reads.Asked,
-      next-open-reads.Learnt,
-      finish-reads.Asked,
-      finish-reads.Learnt,
-      still-late-reads.Asked,
-      still-late-reads.Learnt,
-      rules-after-below t,
-      rules-after.Post,
-    ) (pass-states-at t) pass-states.Post pass-states-Inv-loop pass-states-μ-loop
+pass-states-shared-slice-read-still-late : (t : ℕ) → pass-states-lts.Need-shared-slice-read-still-late (pass-states-claims t) (pass-states-at t) pass-states.Post pass-states-Inv-loop pass-states-μ-loop
 pass-states-shared-slice-read-still-late t c = omega (arith, c .before .before .if1 .left, c .before .before .before .before .before .before .end-at .ensures .0, c .before .before .before .before .before .before .before .before .before .before .before .before .before .before .before .before .before .before .before .before .before .before .pre .1 .0 .entries)
 
 pass-states-still-late-requires : (t : ℕ) → pass-states-lts.Need-still-late-requires (pass-states-claims t) (pass-states-at t) pass-states.Post pass-states-Inv-loop pass-states-μ-loop
@@ -602,27 +580,7 @@ rules-from-shared-slice-read-start-at t c = omega arith
 rules-from-add-start-at-2 : (t : ℕ) → rules-from-lts.Need-add-start-at-2 (rules-from-claims t) (rules-from-at t) rules-from.Post rules-from-Inv-loop rules-from-μ-loop
 rules-from-add-start-at-2 t c = omega arith
 
-rules-from-shared-slice-read-start-at-2 :
-    (t : ℕ) → rules-from-lts.Need-shared-slice-read-start-at-2 (
-      next-rule-reads.Asked,
-      next-rule-reads.Learnt,
-      insert-reads.Asked,
-      insert-reads.Learnt,
-      joined-reads.Asked,
-      joined-reads.Learnt,
-      rules-after-below t,
-      rules-after.Post,
-      is-listed-reads.Asked,
-      is-listed-reads.Learnt,
-      rules-by-below t,
-      rules-by.Post,
-      end-at-reads.Asked,
-      end-at-reads.Learnt,
-      start-at-reads.Asked,
-      start-at-reads.Learnt,
-      runs-with-below t,
-      runs-with.Post,
-    ) (rules-from-at t) rules-from.Post rules-from-Inv-loop rules-from-μ-loop
+rules-from-shared-slice-read-start-at-2 : (t : ℕ) → rules-from-lts.Need-shared-slice-read-start-at-2 (rules-from-claims t) (rules-from-at t) rules-from.Post rules-from-Inv-loop rules-from-μ-loop
 rules-from-shared-slice-read-start-at-2 t c = omega arith
 
 rules-from-start-at-requires : (t : ℕ) → rules-from-lts.Need-start-at-requires (rules-from-claims t) (rules-from-at t) rules-from.Post rules-from-Inv-loop rules-from-μ-loop
