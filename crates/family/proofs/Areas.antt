@@ -2,7 +2,7 @@
 use Prim.Native.Nat.{ℕ, _+_, _*_, _-_, _/_, _%_, _^_, _<_, _≤_}
 use native.Mathlib.Omega.{arith}
 use native.Mathlib.Nat.{add-zero, mod-lt}
-use mathlib.Core.Path.{_≡_, refl, sym, ap, ap₂, _∙_}
+use mathlib.Core.Path.{_≡_, refl, sym, ap, ap₂, subst, _∙_}
 use mathlib.Core.Logic.{⊎-elim}
 use mathlib.Core.Bool.{Bool, true, false, not, _&&_, _||_, or-false}
 use mathlib.Core.List.{List}
@@ -13,7 +13,7 @@ use lib.Dec.{eqb}
 use borrow.Author.Tests.{eqb-true, eqb-false}
 use Rattle.game.specs.Sets.{has}
 use Rattle.game.specs.SetLaws.{none-has, single-has, has-single}
-use Rattle.game.specs.ListLaws.{test}
+use Rattle.game.specs.ListLaws.{test, clash, conj, left-or, right-or}
 use Rattle.family.specs.Family.{holds, Elsewhere, Put, Cleared, Copied, Joined, Without, TakenIn}
 use Rattle.family.specs.DigitLaws.{has-or, has-less}
 use Rattle.family.proofs.Digits.{digit-shift}
@@ -183,10 +183,10 @@ fresh d all to j = bitXor (getD d j 0) (bitAnd (getD d j 0) (getD all (to + j) 0
 abbrev pub grown : List ℕ → List ℕ → ℕ → ℕ → ℕ
 grown d all to j = bitOr (getD all (to + j) 0) (fresh d all to j)
 
-pub taken-all : (n : ℕ) (d : List ℕ) (to : ℕ) (before all old new : List ℕ) (i : ℕ) → Walked before to n (grown d before to) all i
-    → Walked old to n (fresh d before to) new i → n ≤ i → TakenIn n d to before all old new
+-- a family put into another, as the words that were not there joined to it
+pub more-all : (n : ℕ) (d : List ℕ) (to : ℕ) (before all : List ℕ) (i : ℕ) → Walked before to n (grown d before to) all i → n ≤ i → Joined before to n d 0 all
 unfolding holds
-taken-all n d to before all old new i w v end =
+more-all n d to before all i w end =
     record {
       here =
           λ x l.
@@ -195,19 +195,81 @@ taken-all n d to before all old new i w v end =
           ∙ ap (has (getD before (to + x / 64) 0) (x % 64) ||_) (has-less (getD d (x / 64) 0) (getD before (to + x / 64) 0) (x % 64))
           ∙ gained (has (getD before (to + x / 64) 0) (x % 64)) (has (getD d (x / 64) 0) (x % 64))
           ∙ ap (holds before to x ||_) (sym (at-front d x (x / 64) refl));
-      fresh =
-          λ x l.
-          walked-here old to n (fresh d before to) new i v end x l
-          ∙ has-less (getD d (x / 64) 0) (getD before (to + x / 64) 0) (x % 64)
-          ∙ ap (_&& not (holds before to x)) (sym (at-front d x (x / 64) refl));
       elsewhere = walked-else before to n (grown d before to) all i w end;
-      apart = walked-else old to n (fresh d before to) new i v end;
     }
   where
     gained : (p q : Bool) → (p || (q && not p)) ≡ (p || q)
     gained true q = refl
     gained false true = refl
     gained false false = refl
+
+pub taken-all : (n : ℕ) (d : List ℕ) (to : ℕ) (before all old new : List ℕ) (i : ℕ) → Walked before to n (grown d before to) all i
+    → Walked old to n (fresh d before to) new i → n ≤ i → TakenIn n d to before all old new
+unfolding holds
+taken-all n d to before all old new i w v end =
+    let j = more-all n d to before all i w end in
+    record {
+      here = j .here;
+      fresh =
+          λ x l.
+          walked-here old to n (fresh d before to) new i v end x l
+          ∙ has-less (getD d (x / 64) 0) (getD before (to + x / 64) 0) (x % 64)
+          ∙ ap (_&& not (holds before to x)) (sym (at-front d x (x / 64) refl));
+      elsewhere = j .elsewhere;
+      apart = walked-else old to n (fresh d before to) new i v end;
+    }
+
+-- The sets of the words before place i that were not there are digits of one word.
+abbrev pub Missing : List ℕ → List ℕ → ℕ → ℕ → ℕ → Type 0
+Missing d all to any i = (j s : ℕ) → j < i → has (fresh d all to j) s ≡ true → has any s ≡ true
+
+pub missing-on : (d all words : List ℕ) (to any i : ℕ) → Missing d all to any i → getD words (to + i) 0 ≡ getD all (to + i) 0
+    → Missing d all to (bitOr any (fresh d words to i)) (i + 1)
+missing-on d all words to any i m same j s l h =
+    has-or any (fresh d words to i) s
+    ∙ ⊎-elim
+    (λ (t : eqb j i ≡ true).
+    right-or (has any s)
+    (ap (λ (w : ℕ). has (bitXor (getD d i 0) (bitAnd (getD d i 0) w)) s) same ∙ ap (λ (k : ℕ). has (fresh d all to k) s) (sym (eqb-true j i t)) ∙ h))
+    (λ (t : eqb j i ≡ false).
+    let no = eqb-false j i t in
+    left-or (has (fresh d words to i) s) (m j s (omega (arith, no, l)) h))
+    (test (eqb j i))
+
+pub is-zero : (n : ℕ) → not (eqb n 0) ≡ false → n ≡ 0
+is-zero n e = ⊎-elim (λ (t : eqb n 0 ≡ true). eqb-true n 0 t) (λ (t : eqb n 0 ≡ false). clash (ap not t) e) (test (eqb n 0))
+
+-- where that word is empty, every set was there
+pub none-missing : (n : ℕ) (d all : List ℕ) (to any i : ℕ) → Missing d all to any i → n ≤ i → any ≡ 0 → (x : ℕ) → x / 64 < n → holds d 0 x ≡ true → holds all to x ≡ true
+unfolding holds
+none-missing n d all to any i m end e x l h =
+    ⊎-elim
+    (λ (t : has (getD all (to + x / 64) 0) (x % 64) ≡ true). t)
+    (λ (t : has (getD all (to + x / 64) 0) (x % 64) ≡ false).
+    clash
+    (m (x / 64) (x % 64) (omega (arith, end, l))
+    (has-less (getD d (x / 64) 0) (getD all (to + x / 64) 0) (x % 64) ∙ conj (sym (at-front d x (x / 64) refl) ∙ h) (ap not t)))
+    (ap (λ (w : ℕ). has w (x % 64)) e ∙ none-has (x % 64)))
+    (test (has (getD all (to + x / 64) 0) (x % 64)))
+
+-- four words, written one after another
+walk-four : (old : List ℕ) (to n : ℕ) (new : ℕ → ℕ) → n ≡ 4 → to + n ≤ length old → (a b c d : ℕ) → a ≡ new 0 → b ≡ new 1 → c ≡ new 2 → d ≡ new 3
+    → Walked old to n new (set (set (set (set old to a) (to + 1) b) (to + 2) c) (to + 3) d) 4
+walk-four old to n new four room a b c d ea eb ec ed =
+    let first : Walked old to n new (set old to a) 1 =
+    subst (λ (k : ℕ). Walked old to n new (set old k a) 1) (add-zero to) (walk-on old to n new old 0 (walk-starts old to n new) room (omega arith) a ea) in
+    let second = walk-on old to n new (set old to a) 1 first room (omega arith) b eb in
+    let third = walk-on old to n new (set (set old to a) (to + 1) b) 2 second room (omega arith) c ec in
+    walk-on old to n new (set (set (set old to a) (to + 1) b) (to + 2) c) 3 third room (omega arith) d ed
+
+pub cleared-four : (old : List ℕ) (at n : ℕ) → n ≡ 4 → at + n ≤ length old → Cleared old at n (set (set (set (set old at 0) (at + 1) 0) (at + 2) 0) (at + 3) 0)
+cleared-four old at n four room = cleared-all old at n _ 4 (walk-four old at n none four room 0 0 0 0 refl refl refl refl) (omega arith)
+
+pub copied-four : (old : List ℕ) (to n : ℕ) (others : List ℕ) (at : ℕ) → n ≡ 4 → to + n ≤ length old
+    → Copied old to n others at
+    (set (set (set (set old to (getD others at 0)) (to + 1) (getD others (at + 1) 0)) (to + 2) (getD others (at + 2) 0)) (to + 3) (getD others (at + 3) 0))
+copied-four old to n others at four room =
+    copied-all old to n others at _ 4 (walk-four old to n (copied others at) four room _ _ _ _ (rw (add-zero at) refl) refl refl refl) (omega arith)
 
 -- the same of families of one word, which are written at once
 pub cleared-one : (old : List ℕ) (at n : ℕ) → n ≡ 1 → at + n ≤ length old → Cleared old at n (set old at 0)
@@ -234,6 +296,22 @@ taken-one n d to all new one room more =
     (walk-one all to n (grown d all to) _ one room (rw (add-zero to) refl))
     (walk-one new to n (fresh d all to) _ one more (rw (add-zero to) refl))
     (omega arith)
+
+pub more-one : (n : ℕ) (d : List ℕ) (to : ℕ) (all : List ℕ) → n ≡ 1 → to + n ≤ length all
+    → let v = bitXor (getD d 0 0) (bitAnd (getD d 0 0) (getD all to 0)) in
+    Joined all to n d 0 (set all to (bitOr (getD all to 0) v))
+more-one n d to all one room =
+    more-all n d to all _ 1
+    (walk-one all to n (grown d all to) _ one room (rw (add-zero to) refl))
+    (omega arith)
+
+pub none-missing-one : (n : ℕ) (d : List ℕ) (to : ℕ) (all : List ℕ) → n ≡ 1 → bitXor (getD d 0 0) (bitAnd (getD d 0 0) (getD all to 0)) ≡ 0
+    → (x : ℕ) → x / 64 < n → holds d 0 x ≡ true → holds all to x ≡ true
+none-missing-one n d to all one e =
+    none-missing n d all to (fresh d all to 0) 1
+    (λ j s l h. let first : j ≡ 0 = omega arith in subst (λ (k : ℕ). has (fresh d all to k) s ≡ true) first h)
+    (omega arith)
+    (rw (add-zero to) e)
 
 -- the words before place i have no set
 pub empty-all : (words : List ℕ) (at n i : ℕ) → ((j : ℕ) → j < i → getD words (at + j) 0 ≡ 0) → n ≤ i

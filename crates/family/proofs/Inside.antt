@@ -3,7 +3,6 @@
 use Prim.Native.Nat.{ℕ, zero, suc, _+_, _/_, _%_, _^_, _<_}
 use native.Mathlib.Omega.{arith}
 use native.Mathlib.Nat.{div-one, pow-suc}
-use native.Mathlib.Numerals.{add-one}
 use mathlib.Core.Path.{_≡_, refl, sym, ap, _∙_}
 use mathlib.Core.Logic.{⊎-elim}
 use mathlib.Core.Bool.{Bool, true, false, not, _&&_, _||_}
@@ -60,9 +59,9 @@ pub inside-none : (a b : ℕ) → inside 0 a b ≡ true
 unfolding inside allBelow
 inside-none a b = refl
 
-pub inside-more : (e a b : ℕ) → inside (e + 1) a b ≡ (inside e a b && kept a b e)
+pub inside-more : (e a b : ℕ) → inside (suc e) a b ≡ (inside e a b && kept a b e)
 unfolding inside allBelow
-inside-more e a b = rw add-one refl
+inside-more e a b = refl
 
 pub inside-is : (n a b : ℕ) → a < 2 ^ n → b < 2 ^ n → inside n a b ≡ eqb (union b a) b
 unfolding inside

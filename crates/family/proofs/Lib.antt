@@ -1,9 +1,10 @@
 pub mod Areas
 pub mod Digits
-pub mod Filling
+pub mod Entries
 pub mod Inside
 pub mod Into
 pub mod Lifting
+pub mod MaskTable
 pub mod Places
 pub mod Subsets
 pub mod Unions

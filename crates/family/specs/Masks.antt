@@ -15,8 +15,3 @@ pub record Masks (table : List ℕ) (x : ℕ) : Type 0 where
 
 pub record Raising (table : List ℕ) : Type 0 where
   pub masks : (x : ℕ) → x < 64 → Masks table x
-
--- the words of set x written after those of smaller sets
-pub record Filled (x : ℕ) (old table : List ℕ) : Type 0 where
-  pub masks : Masks table x
-  pub before : (i : ℕ) → i < x * 8 → getD table i 0 ≡ getD old i 0

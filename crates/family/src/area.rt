@@ -1,4 +1,5 @@
-// Families at places of an area. Most families have one word: what is done often has a way without a loop for them.
+// Families at places of an area. Most families have one word: what is done often has a way without a loop for them. Families of four words
+// are emptied and copied without one, too.
 ghost use mathlib.Core.Path.{_≡_};
 ghost use mathlib.Core.Bool.{true, false};
 ghost use Prim.Native.Nat.{ℕ, _+_, _/_, _<_, _≤_};
@@ -51,6 +52,13 @@ pub fn clear_at(words: &mut [u64], at: usize, n: usize)
         words[at] = 0;
         return;
     }
+    if n == 4 {
+        words[at] = 0;
+        words[at + 1] = 0;
+        words[at + 2] = 0;
+        words[at + 3] = 0;
+        return;
+    }
     let mut i = 0;
     while i < n {
         words[at + i] = 0;
@@ -66,6 +74,13 @@ pub fn copy_at(words: &mut [u64], to: usize, others: &[u64], at: usize, n: usize
 {
     if n == 1 {
         words[to] = others[at];
+        return;
+    }
+    if n == 4 {
+        words[to] = others[at];
+        words[to + 1] = others[at + 1];
+        words[to + 2] = others[at + 2];
+        words[to + 3] = others[at + 3];
         return;
     }
     let mut i = 0;
@@ -126,4 +141,27 @@ pub fn take_in(all: &mut [u64], new: &mut [u64], to: usize, d: &[u64], n: usize)
         all[to + t] = all[to + t] | v;
         t += 1;
     }
+}
+
+// The sets of the family at the front of `d` put into the family at a place; whether one of them was not there.
+pub fn take_more(all: &mut [u64], to: usize, d: &[u64], n: usize) -> bool
+    requires { ⌜ (to + n ≤ length (now all)) × (n ≤ length (now d)) ⌝ }
+    ensures { λ _. ⌜ Joined (now (all .entry)) to n (now (d .entry)) 0 (now (all .exit)) ⌝ }
+    ensures { λ r. ⌜ (r ≡ false → (x : ℕ) → x / 64 < n → holds (now (d .entry)) 0 x ≡ true → holds (now (all .entry)) to x ≡ true) ⌝ }
+    ensures { λ _. ⌜ length (now (all .exit)) ≡ length (now (all .entry)) ⌝ }
+{
+    if n == 1 {
+        let v = d[0] ^ (d[0] & all[to]);
+        all[to] = all[to] | v;
+        return v != 0;
+    }
+    let mut any = 0u64;
+    let mut t = 0;
+    while t < n {
+        let v = d[t] ^ (d[t] & all[to + t]);
+        any = any | v;
+        all[to + t] = all[to + t] | v;
+        t += 1;
+    }
+    any != 0
 }

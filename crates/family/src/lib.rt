@@ -2,9 +2,9 @@
 //
 // It leaves out where families come from and what they are for, which is the solver's.
 mod area;
+mod mask_table;
 mod raising;
 mod uniting;
-mod words;
 
 pub use area::clear_at;
 pub use area::copy_at;
@@ -14,8 +14,9 @@ pub use area::join_at;
 pub use area::put_at;
 pub use area::remove_at;
 pub use area::take_in;
+pub use area::take_more;
 pub use raising::RAISING;
-pub use raising::fill_raising;
+pub use raising::raising_table;
 pub use raising::subsets_at;
 pub use uniting::unite_by;
 pub use uniting::unite_into;

@@ -1,10 +1,10 @@
--- Abelard's heads: the rules of a head are those of its chain; the unions of their ends are what the runs give it; and where none of its
--- rules has more ends, it has them already.
-use Prim.Native.Nat.{ℕ, zero, suc, _+_, _*_, _-_, _/_, _%_, _^_, _<_, _≤_}
+-- Abelard's heads: the rules of a head are those of its chain; the unions of their ends are what the runs give it; and where the head is
+-- not marked, so that none of its rules has more ends, it has them already.
+use Prim.Native.Nat.{ℕ, zero, suc, _+_, _*_, _-_, _/_, _^_, _<_, _≤_}
 use native.Mathlib.Omega.{arith}
 use mathlib.Core.Path.{_≡_, refl, sym, ap, subst, _∙_}
 use mathlib.Core.Logic.{inl, inr, ⊎-elim}
-use mathlib.Core.Bool.{Bool, true, false, not}
+use mathlib.Core.Bool.{true, false}
 use mathlib.Core.List.{List, [], _∷_, _++_, map, map-map, List·Memᴰ·head, List·Memᴰ·not-nil, List·Memᴰ·eq-of-singleton}
 use lib.ListN.{length, getD}
 use lib.Seq.{take-all}
@@ -17,9 +17,8 @@ use Rattle.game.specs.GoodGame.{Good, Numbered}
 use Rattle.game.specs.Stored.{ruleBytes}
 use Rattle.game.specs.StoredLaws.{noRule}
 use Rattle.game.specs.Win.{isAbelard}
-use Rattle.game.specs.ListLaws.{_∈_, test, clash, map-in, in-map, flatMap-in}
+use Rattle.game.specs.ListLaws.{_∈_, test, map-in, in-map, flatMap-in}
 use Rattle.table.specs.Table.{Entry, firstWord}
-use Rattle.family.specs.Family.{holds}
 use Rattle.family.specs.Masks.{Raising}
 use Rattle.table.specs.Pairwise.{Ascending}
 use Rattle.rounds.specs.RoundLaws.{AllRanged}
@@ -27,21 +26,18 @@ use Rattle.rounds.specs.Rounds.{members, setsOf, unions, ends, ruleEnds}
 use Rattle.rounds.specs.Candidates.{abelards, rule-in}
 use Rattle.rounds.specs.Scans.{NextRule, rulesBetween}
 use Rattle.rounds.specs.ScanLaws.{next-is, none-next}
-use Rattle.saturation.specs.Expand.{expand, Elements, Within, AllWithin}
-use Rattle.saturation.specs.ExpandLaws.{expand-single}
-use Rattle.saturation.specs.UnionSteps.{unions-more}
-use Rattle.saturation.specs.Pool.{Is, Head, Layout, HeadsHold}
-use Rattle.saturation.specs.PoolLaws.{head-within, union-within}
-use Rattle.saturation.specs.Ending.{Listed, RuleEnds}
+use Rattle.unions.specs.Expand.{expand, Elements, Within, AllWithin}
+use Rattle.unions.specs.ExpandLaws.{expand-single}
+use Rattle.unions.specs.UnionSteps.{unions-more}
+use Rattle.unions.specs.Pool.{Is, Head, Layout, HeadsHold}
+use Rattle.unions.specs.PoolLaws.{head-within, union-within}
+use Rattle.unions.specs.Ending.{Listed, RuleEnds}
 use Rattle.saturation.specs.Taking.{Taking}
-use Rattle.saturation.specs.Offers.{Adding, Offered, Taken, Given}
-use Rattle.saturation.specs.Steps.{Stepped, Step, AbelardsTo}
+use Rattle.saturation.specs.Offers.{Adding, Offered, Taken, Spared, Gave}
+use Rattle.saturation.specs.Steps.{Step}
 use Rattle.saturation.specs.RuleLinks.{Linked, Chain, ended, linked}
-use Rattle.saturation.specs.HeadSteps.{Still, EndsOf, AllOf, AbelardAt, Ready}
-use Rattle.saturation.proofs.Giving.{heads-old}
-use Rattle.saturation.proofs.Marking.{not-false}
-use Rattle.saturation.proofs.HeadTurns.{chain-below}
-use Rattle.saturation.proofs.HeadNumbers.{same-head, state-of, letter-of, number-is}
+use Rattle.saturation.specs.HeadSteps.{EndsOf, AllOf, AbelardAt, Ready}
+use Rattle.saturation.proofs.HeadTurns.{chain-below, no-more}
 
 abbrev ruleOf : PushdownGame → ℕ → Rule
 ruleOf g r = getD (g .rules) r noRule
@@ -117,12 +113,13 @@ unfolding unions
 some-end f [] s z m i = absurd (List·Memᴰ·not-nil m)
 some-end f (r ∷ rs) s z m i = let q = flatMap-in (λ set. map (union set) (unions (map f rs))) (f r) i in (r, q .0, List·Memᴰ·head refl, q .1)
 
-module _ (el : List ℕ) (g : PushdownGame) (n : ℕ) (old es : List Entry) (i abelard control letters rulecount : ℕ) (rules runs grown firsts nexts raising all : List ℕ)
-    (k : Ready el g n old es i abelard control letters rulecount rules runs grown firsts nexts raising all) (p a : ℕ) (lp : p < control) (la : a < letters) (head : ℕ) (eh : head ≡ p * letters + a) where
-  pub state-in : p < g .control
+module _ (el : List ℕ) (g : PushdownGame) (n : ℕ) (old es : List Entry) (i abelard control letters rulecount : ℕ) (rules runs stirred firsts nexts raising all : List ℕ)
+    (k : Ready el g n old es i abelard control letters rulecount rules runs stirred firsts nexts raising all) (p a : ℕ) (lp : p < control) (la : a < letters) (head : ℕ) (eh : head ≡ p * letters + a)
+    (on : isAbelard g p ≡ true) where
+  state-in : p < g .control
   state-in = omega (arith, lp, k .controls)
 
-  pub letter-in : a < g .letters
+  letter-in : a < g .letters
   letter-in = omega (arith, la, k .lettered)
 
   links : Linked rules (length (g .rules)) letters control firsts nexts
@@ -131,10 +128,10 @@ module _ (el : List ℕ) (g : PushdownGame) (n : ℕ) (old es : List Entry) (i a
   whole : Chained g p a rules (k .slack) (k .stored) nexts 0 (getD firsts (p * letters + a) 0)
   whole = chained g p a rules (k .slack) (k .stored) letters control firsts nexts links (length (g .rules)) 0 (getD firsts (p * letters + a) 0) (omega arith) (links .first p a lp la)
 
-  pub chain : List ℕ
+  chain : List ℕ
   chain = whole .chain
 
-  pub follows : Chain rulecount nexts (getD firsts head 0) chain
+  follows : Chain rulecount nexts (getD firsts head 0) chain
   unfolding chain
   follows =
       subst (λ (m : ℕ). Chain m nexts (getD firsts head 0) (whole .chain)) (sym (k .counted))
@@ -147,14 +144,17 @@ module _ (el : List ℕ) (g : PushdownGame) (n : ℕ) (old es : List Entry) (i a
   low : (s : ℕ) → s ∈ chain → s < length (g .rules)
   low s m = subst (λ (j : ℕ). s < j) (k .counted) (chain-below follows s m)
 
-  own : (s : ℕ) → s ∈ chain → ruleOf g s ∈ g .rules
-  own s m = rule-in g p a (subst (λ (rs : List Rule). ruleOf g s ∈ rs) same (in-map (ruleOf g) m)) .0
+  its : (s : ℕ) → s ∈ chain → (ruleOf g s ∈ g .rules) × (ruleOf g s .from ≡ p) × (ruleOf g s .top ≡ a)
+  its s m = rule-in g p a (subst (λ (rs : List Rule). ruleOf g s ∈ rs) same (in-map (ruleOf g) m))
+
+  owned : (s : ℕ) → s ∈ chain → isAbelard g (ruleOf g s .from) ≡ true
+  owned s m = ap (isAbelard g) (its s m .1) ∙ on
 
   number : (s : ℕ) → s ∈ chain → ruleOf g s .number ≡ s
   number s m = let at = numbered-at 0 (g .rules) (k .good .ranged .numbers) s (low s m) in omega (arith, at)
 
   -- the ends of the rule of a number
-  pub endsAt : List Entry → ℕ → List ℕ
+  endsAt : List Entry → ℕ → List ℕ
   endsAt table s = ruleEnds g table (ruleOf g s)
 
   lists : (table : List Entry) → map (endsAt table) chain ≡ map (ruleEnds g table) (rulesOf g p a)
@@ -163,43 +163,47 @@ module _ (el : List ℕ) (g : PushdownGame) (n : ℕ) (old es : List Entry) (i a
 
   within-at : (s z : ℕ) → s ∈ chain → z ∈ endsAt es s → Within el z
   unfolding endsAt
-  within-at s z m j = ends-within el g es (k .layout .elements) (k .within) (ruleOf g s) (k .pops (ruleOf g s) (own s m)) z j
+  within-at s z m j = ends-within el g es (k .layout .elements) (k .within) (ruleOf g s) (k .pops (ruleOf g s) (its s m .0)) z j
 
-  pub families : EndsOf el n runs (endsAt es) chain
+  families : EndsOf el n runs (endsAt es) chain
   unfolding endsAt ruleEnds
   families =
       record {
-        is = λ s m. subst (λ (j : ℕ). Is el n runs (j * n) (RuleEnds g es (ruleOf g s))) (number s m) (k .runs (ruleOf g s) (own s m));
+        is = λ s m. subst (λ (j : ℕ). Is el n runs (j * n) (RuleEnds g es (ruleOf g s))) (number s m) (k .runs (ruleOf g s) (its s m .0) (owned s m));
         within = within-at;
       }
 
-  -- a rule that has no more ends has only such as it had
-  module _ (still : Still n grown chain) where
+  -- the head has a rule
+  a-rule : (s : ℕ) × (s ∈ chain)
+  a-rule =
+      let r = k .good .head p a state-in letter-in in
+      let s = map-in (ruleOf g) chain (subst (λ (rs : List Rule). r .0 ∈ rs) (sym same) (r .1)) in
+      (s .0, s .1)
+
+  pub not-none : rulecount ≤ getD firsts head 0 → ⊥
+  not-none l = List·Memᴰ·not-nil (subst (λ (xs : List ℕ). a-rule .0 ∈ xs) (no-more follows l) (a-rule .1))
+
+  -- where it is not marked, its rules have only such ends as they had
+  module _ (off : has (getD stirred p 0) a ≡ false) where
+    clear : (s : ℕ) → s ∈ chain → has (getD stirred (ruleOf g s .from) 0) (ruleOf g s .top) ≡ false
+    clear s m = ap (λ (q : ℕ). has (getD stirred q 0) (ruleOf g s .top)) (its s m .1) ∙ ap (has (getD stirred p 0)) (its s m .2) ∙ off
+
     before : (s : ℕ) → s ∈ chain → (v : ℕ) → v ∈ endsAt es s → (0 < i) × (v ∈ endsAt old s)
     unfolding endsAt ruleEnds
-    before s m v j =
-        let x = within-at s v m j in
-        let g-x = k .grew (ruleOf g s) (own s m) in
-        let here = subst (λ (w : ℕ). RuleEnds g es (ruleOf g s) w) (x .2) j in
-        ⊎-elim (λ b. (b .0, subst (λ (w : ℕ). w ∈ ends (g .states) old (wordOf (ruleOf g s .count) (ruleOf g s .above) (ruleOf g s .below)) (ruleOf g s .to)) (sym (x .2)) (b .1)))
-        (λ h.
-        clash (subst (λ (j : ℕ). holds grown (j * n) (x .0) ≡ true) (number s m) h) (still .none s m (x .0) (k .layout .room (x .0) (x .1))))
-        (g-x .into (x .0) (x .1) here)
+    before s m v j = k .calm (ruleOf g s) (its s m .0) (owned s m) (clear s m) v j
 
     -- so its unions are in the table
-    pub still-there : isAbelard g p ≡ true → (z : ℕ) → z ∈ unions (map (ruleEnds g es) (rulesOf g p a)) → Head es p a z
-    still-there on z m =
+    pub still-there : (z : ℕ) → z ∈ unions (map (ruleEnds g es) (rulesOf g p a)) → Head es p a z
+    still-there z m =
         let here : z ∈ unions (map (endsAt es) chain) = subst (λ (fs : List (List ℕ)). z ∈ unions fs) (sym (lists es)) m in
-        let r = k .good .head p a state-in letter-in in
-        let s = map-in (ruleOf g) chain (subst (λ (rs : List Rule). r .0 ∈ rs) (sym same) (r .1)) in
-        let e = some-end (endsAt es) chain (s .0) z (s .1) here in
+        let e = some-end (endsAt es) chain (a-rule .0) z (a-rule .1) here in
         let was = unions-more (endsAt es) (endsAt old) chain (λ t j v w. before t j v w .1) z here in
         k .ripe p a z 0 state-in letter-in (before (e .0) (e .2) (e .1) (e .3) .0)
         (abelards on (subst (λ (fs : List (List ℕ)). z ∈ unions fs) (lists old) was) refl)
 
   -- the sets that are offered
-  module _ (on : isAbelard g p ≡ true) (sets : List ℕ) (union-of : AllOf el n (endsAt es) chain sets) where
-    pub offered : (now : List Entry) → Offered el g n es now p a 0 sets 0
+  module _ (sets : List ℕ) (union-of : AllOf el n (endsAt es) chain sets) where
+    offered : (now : List Entry) → Offered el g n es now p a 0 sets 0
     offered now =
         record {
           small = λ x l h. union-of .from x l h .0;
@@ -207,7 +211,7 @@ module _ (el : List ℕ) (g : PushdownGame) (n : ℕ) (old es : List Entry) (i a
           lowest = λ x l h new fresh field w. omega arith;
         }
 
-    pub taken-all : (b : ℕ) (now : List Entry) (log added : List ℕ) (count : ℕ) → (t : Taken el g n es b p a now sets 0 n log added count) → (z : ℕ)
+    taken-all : (b : ℕ) (now : List Entry) (log added : List ℕ) (count : ℕ) → (t : Taken el g n es b p a now sets 0 n log added count) → (z : ℕ)
         → z ∈ unions (map (ruleEnds g es) (rulesOf g p a)) → Head (t .after) p a z
     taken-all b now log added count t z m =
         let x = union-of .into z (subst (λ (fs : List (List ℕ)). z ∈ unions fs) (sym (lists es)) m) in
@@ -215,49 +219,30 @@ module _ (el : List ℕ) (g : PushdownGame) (n : ℕ) (old es : List Entry) (i a
         subst (Head (t .after) p a) (sym (x .3)) (t .into (x .0) room room (x .2))
 
   -- what is given to this head, at whatever numbers it is asked for
-  given-at : (after : List Entry) → ((z : ℕ) → isAbelard g p ≡ true → z ∈ unions (map (ruleEnds g es) (rulesOf g p a)) → Head after p a z) → (q c z : ℕ)
-      → AbelardAt g es p a q c z → Head after q c z
+  given-at : (after : List Entry) → ((z : ℕ) → z ∈ unions (map (ruleEnds g es) (rulesOf g p a)) → Head after p a z) → (q c z : ℕ) → AbelardAt g es p a q c z → Head after q c z
   given-at after h q c z w =
       let there = subst (λ (v : ℕ). z ∈ unions (map (ruleEnds g es) (rulesOf g p v))) (w .1) (subst (λ (v : ℕ). z ∈ unions (map (ruleEnds g es) (rulesOf g v c))) (w .0) (w .3)) in
-      subst (λ (v : ℕ). Head after v c z) (sym (w .0))
-      (subst (λ (v : ℕ). Head after p v z) (sym (w .1)) (h z (ap (isAbelard g) (sym (w .0)) ∙ w .2) there))
-
-  module _ (b size : ℕ) (now : List Entry) (log added : List ℕ) (count : ℕ) (taking : Taking el g es b log count now) (adding : Adding el g n es now added) (fits : count ≤ size) where
-    as-it-is : ((z : ℕ) → isAbelard g p ≡ true → z ∈ unions (map (ruleEnds g es) (rulesOf g p a)) → Head now p a z)
-        → Step el g n es b size now (AbelardAt g es p a) log added count
-    as-it-is h =
-        inr (fits, record { after = now; taking = taking; adding = adding; kept = λ q c z m. m; given = λ q c z lq lc w. given-at now h q c z w })
-
-    -- a head of Éloise's
-    pub step-other : (t : Bool) → t ≡ has abelard p → not t ≡ true → Step el g n es b size now (AbelardAt g es p a) log added count
-    step-other t e off = as-it-is (λ z on m. clash off (ap not (e ∙ ap (λ (s : ℕ). has s p) (k .owned) ∙ on)))
-
-    -- a head of whose rules none has more ends
-    pub step-still : Still n grown chain → Step el g n es b size now (AbelardAt g es p a) log added count
-    step-still still = as-it-is (λ z on m. heads-old el g es b log count now taking p a z (still-there still on z m))
+      subst (λ (v : ℕ). Head after v c z) (sym (w .0)) (subst (λ (v : ℕ). Head after p v z) (sym (w .1)) (h z there))
 
   word-is : (b : ℕ) → p + 256 * a + 65536 * b ≡ firstWord p a b
   unfolding firstWord
   word-is b = refl
 
   -- a head that was offered the unions
-  module _ (b size : ℕ) (now : List Entry) (log₀ added₀ : List ℕ) (count₀ : ℕ) (taking : Taking el g es b log₀ count₀ now) (adding : Adding el g n es now added₀)
-      (t : Bool) (e : t ≡ has abelard p) (off : not t ≡ false) (sets log added : List ℕ) (count : ℕ) where
-    on : isAbelard g p ≡ true
-    on = ap (λ (s : ℕ). has s p) (sym (k .owned)) ∙ sym e ∙ not-false t off
-
+  module _ (b size : ℕ) (now : List Entry) (log₀ added₀ gains₀ : List ℕ) (count₀ : ℕ) (taking : Taking el g es b log₀ count₀ now) (adding : Adding el g n es now added₀)
+      (spared : Spared g es now gains₀) (sets log added gains : List ℕ) (count : ℕ) where
     pub step-offer : (Raising raising → (el : List ℕ) (states : ℕ) (f : ℕ → List ℕ) (chain : List ℕ) → Elements el states → ((x : ℕ) → x < 2 ^ length el → x / 64 < n)
         → Chain rulecount nexts (getD firsts head 0) chain → EndsOf el n runs f chain → AllOf el n f chain sets)
-        → ((el : List ℕ) (g : PushdownGame) (es now : List Entry) (b′ p′ a′ : ℕ) → Layout el g n → Good g → Ascending es → AllRanged g es → Taking el g es b′ log₀ count₀ now
-        → p + 256 * a + 65536 * b ≡ firstWord p′ a′ b′ → p′ < g .control → a′ < g .letters → head ≡ p′ * g .letters + a′ → HeadsHold el g n es all → Adding el g n es now added₀
-        → Offered el g n es now p′ a′ 0 sets 0 → Given el g n es b′ size p′ a′ now sets 0 log added count)
-        → Step el g n es b size now (AbelardAt g es p a) log added count
+        → ((el : List ℕ) (g : PushdownGame) (es now : List Entry) (b′ : ℕ) → Layout el g n → Good g → Ascending es → AllRanged g es → Taking el g es b′ log₀ count₀ now
+        → p + 256 * a + 65536 * b ≡ firstWord p a b′ → p < g .control → a < g .letters → head ≡ p * g .letters + a → HeadsHold el g n es all → Adding el g n es now added₀
+        → Offered el g n es now p a 0 sets 0 → Spared g es now gains₀ → Gave el g n es b′ size p a now sets 0 gains log added count)
+        → Step el g n es b size now (AbelardAt g es p a) gains log added count
     step-offer unite give =
         let union-of = unite (k .masks) el (g .states) (endsAt es) chain (k .layout .elements) (k .layout .room) follows families in
         let numbered : head ≡ p * g .letters + a = eh ∙ ap (λ (l : ℕ). p * l + a) (k .lettered) in
         ⊎-elim inl
         (λ w.
-        let took = w .1 in
+        let took = w .1 .0 in
         inr (
           w .0,
           record {
@@ -265,89 +250,8 @@ module _ (el : List ℕ) (g : PushdownGame) (n : ℕ) (old es : List Entry) (i a
             taking = took .taking;
             adding = took .adding;
             kept = took .kept;
-            given = λ q c z lq lc h. given-at (took .after) (λ v on′ m. taken-all on sets union-of b now log added count took v m) q c z h;
+            given = λ q c z lq lc h. given-at (took .after) (λ v m. taken-all sets union-of b now log added count took v m) q c z h;
+            gained = w .1 .1 .none;
           },
         ))
-        (give el g es now b p a (k .layout) (k .good) (k .ascending) (k .ranged) taking (word-is b) state-in letter-in numbered (k .hold) adding (offered on sets union-of now))
-
--- The heads whose number is below `head` are taken.
-module _ (abelard control letters rulecount n : ℕ) (ends grown firsts nexts raising all log₀ added₀ : List ℕ) (count₀ size b : ℕ) where
-  pub record Going (log added : List ℕ) (count head : ℕ) : Type 0 where
-    pub below : head ≤ control * letters
-    pub room : count ≤ size
-    pub areas : length added ≡ length added₀
-    pub same : length log ≡ length log₀
-    pub steps : (el : List ℕ) (g : PushdownGame) (old es now : List Entry) (i : ℕ) (rules : List ℕ)
-        → Ready el g n old es i abelard control letters rulecount rules ends grown firsts nexts raising all → Taking el g es b log₀ count₀ now → Adding el g n es now added₀
-        → Stepped el g n es b now (AbelardsTo g es head) log added count
-
-  pub going-starts : count₀ ≤ size → Going log₀ added₀ count₀ 0
-  going-starts fits =
-      record {
-        below = omega arith;
-        room = fits;
-        areas = refl;
-        same = refl;
-        steps =
-            λ el g old es now i rules k taking adding.
-            record { after = now; taking = taking; adding = adding; kept = λ q c z h. h; given = λ q c z lq lc h. absurd (omega (arith, h .1)) };
-      }
-
-  module _ (log added : List ℕ) (count head : ℕ) (w : Going log added count head) (l : head < control * letters) (log′ added′ : List ℕ) (count′ : ℕ)
-      (step : (el : List ℕ) (g : PushdownGame) (old es now : List Entry) (i : ℕ) (rules : List ℕ) (c l : ℕ)
-      → Ready el g n old es i abelard c l rulecount rules ends grown firsts nexts raising all → head / letters < c → head % letters < l → head ≡ head / letters * l + head % letters
-      → Taking el g es b log count now → Adding el g n es now added → Step el g n es b size now (AbelardAt g es (head / letters) (head % letters)) log′ added′ count′) where
-    this : (el : List ℕ) (g : PushdownGame) (old es now : List Entry) (i : ℕ) (rules : List ℕ) → (k : Ready el g n old es i abelard control letters rulecount rules ends grown firsts nexts raising all)
-        → (s : Stepped el g n es b now (AbelardsTo g es head) log added count)
-        → Step el g n es b size (s .after) (AbelardAt g es (head / letters) (head % letters)) log′ added′ count′
-    this el g old es now i rules k s =
-        step el g old es (s .after) i rules control letters k (state-of control letters head l) (letter-of control letters head l) (number-is control letters head l) (s .taking) (s .adding)
-
-    pub going-full : size < count′ → (el : List ℕ) (g : PushdownGame) (old es now : List Entry) (i : ℕ) (rules : List ℕ)
-        → Ready el g n old es i abelard control letters rulecount rules ends grown firsts nexts raising all → Taking el g es b log₀ count₀ now → Adding el g n es now added₀
-        → Step el g n es b size now (AbelardsTo g es (control * letters)) log′ added′ count′
-    going-full over el g old es now i rules k taking adding =
-        ⊎-elim inl (λ h. absurd (omega (arith, over, h .0))) (this el g old es now i rules k (w .steps el g old es now i rules k taking adding))
-
-    pub going-on : count′ ≤ size → length added′ ≡ length added → length log′ ≡ length log → Going log′ added′ count′ (head + 1)
-    going-on fits la ll =
-        record {
-          below = omega (arith, l);
-          room = fits;
-          areas = la ∙ w .areas;
-          same = ll ∙ w .same;
-          steps =
-              λ el g old es now i rules k taking adding.
-              let s = w .steps el g old es now i rules k taking adding in
-              ⊎-elim (λ h. absurd (omega (arith, fits, h .0)))
-              (λ h.
-              let t = h .1 in
-              record {
-                after = t .after;
-                taking = t .taking;
-                adding = t .adding;
-                kept = λ q c z m. t .kept q c z (s .kept q c z m);
-                given =
-                    λ q c z lq lc m.
-                    ⊎-elim
-                    (λ (u : ltb (q * g .letters + c) head ≡ true). t .kept q c z (s .given q c z lq lc (m .0, ltb-true (q * g .letters + c) head u, m .2)))
-                    (λ (u : ltb (q * g .letters + c) head ≡ false).
-                    let here : q * g .letters + c ≡ head = (let low = ltb-false (q * g .letters + c) head u in omega (arith, m .1, low)) in
-                    let number : head ≡ head / letters * g .letters + head % letters =
-                    number-is control letters head l ∙ ap (λ (v : ℕ). head / letters * v + head % letters) (k .lettered) in
-                    let parts = same-head q c (head / letters) (head % letters) (g .letters) lc
-                    (subst (λ (v : ℕ). head % letters < v) (k .lettered) (letter-of control letters head l))
-                    (here ∙ number) in
-                    t .given q c z lq lc (parts .0, parts .1, m .0, m .2))
-                    (test (ltb (q * g .letters + c) head));
-              })
-              (this el g old es now i rules k s);
-        }
-
-  pub going-ends : (log added : List ℕ) (count head : ℕ) → control * letters ≤ head → Going log added count head
-      → (el : List ℕ) (g : PushdownGame) (old es now : List Entry) (i : ℕ) (rules : List ℕ)
-      → Ready el g n old es i abelard control letters rulecount rules ends grown firsts nexts raising all → Taking el g es b log₀ count₀ now → Adding el g n es now added₀
-      → Step el g n es b size now (AbelardsTo g es (control * letters)) log added count
-  going-ends log added count head l w el g old es now i rules k taking adding =
-      let last : head ≡ control * letters = omega (arith, l, w .below) in
-      inr (w .room, subst (λ (h : ℕ). Stepped el g n es b now (AbelardsTo g es h) log added count) last (w .steps el g old es now i rules k taking adding))
+        (give el g es now b (k .layout) (k .good) (k .ascending) (k .ranged) taking (word-is b) state-in letter-in numbered (k .hold) adding (offered sets union-of now) spared)

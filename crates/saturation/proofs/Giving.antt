@@ -22,14 +22,14 @@ use Rattle.family.specs.Family.{holds}
 use Rattle.family.specs.DigitLaws.{has-less, has-or}
 use Rattle.rounds.specs.Rounds.{nextRound}
 use Rattle.rounds.specs.RoundLaws.{AllRanged}
-use Rattle.saturation.specs.Expand.{expand, Elements}
-use Rattle.saturation.specs.ExpandLaws.{expand-same}
-use Rattle.saturation.specs.Pool.{Head, Grew, Layout, HeadsHold}
-use Rattle.saturation.specs.PoolLaws.{next-row}
-use Rattle.saturation.specs.Ending.{OfWord}
+use Rattle.unions.specs.Expand.{expand, Elements}
+use Rattle.unions.specs.ExpandLaws.{expand-same}
+use Rattle.unions.specs.Pool.{Head, Grew, Layout, HeadsHold}
+use Rattle.unions.specs.PoolLaws.{next-row}
+use Rattle.unions.specs.Ending.{OfWord}
 use Rattle.saturation.specs.Taking.{Taking, head-entry, entry-head}
 use Rattle.saturation.specs.Offers.{Offer, More, Noting, Adding, Offered, Taken, Given}
-use Rattle.saturation.proofs.Choosing.{holds-word}
+use Rattle.unions.specs.PlaceLaws.{holds-word}
 
 off : {b : Bool} → not b ≡ true → b ≡ false
 off {b} h = ⊎-elim (λ (t : b ≡ true). clash h (ap not t)) (λ (t : b ≡ false). t) (test b)

@@ -1,8 +1,8 @@
--- The rules of a head taken one after another: whether one has a set, and the unions of one set of each.
+-- The rules of a head taken one after another: the unions of one set of each.
 use Prim.Native.Nat.{ℕ, _*_, _/_, _^_, _<_, _≤_}
 use native.Mathlib.Omega.{arith}
 use mathlib.Core.Path.{_≡_, refl, sym, ap, subst, _∙_}
-use mathlib.Core.Logic.{_⊎_, inl, inr, ⊎-elim}
+use mathlib.Core.Logic.{⊎-elim}
 use mathlib.Core.Bool.{true, false}
 use mathlib.Core.List.{List, [], _∷_, map, List·Memᴰ·head, List·Memᴰ·tail, List·Memᴰ·cases-cons, List·Memᴰ·not-nil, List·Memᴰ·eq-of-singleton}
 use lib.ListN.{length, getD}
@@ -13,63 +13,23 @@ use Rattle.game.specs.ListLaws.{_∈_, clash, map-in, in-map, flatMap-in, in-fl
 use Rattle.family.specs.Family.{holds, UnitesInto, Copied}
 use Rattle.family.specs.Masks.{Raising}
 use Rattle.rounds.specs.Rounds.{unions}
-use Rattle.saturation.specs.Expand.{expand, Elements}
-use Rattle.saturation.specs.ExpandLaws.{expand-union}
-use Rattle.saturation.specs.RuleLinks.{Climbs, Chain, ended, linked}
-use Rattle.saturation.specs.HeadSteps.{Still, EndsOf, AllOf}
+use Rattle.unions.specs.Expand.{expand, Elements}
+use Rattle.unions.specs.ExpandLaws.{expand-union}
+use Rattle.saturation.specs.RuleLinks.{Chain, ended, linked}
+use Rattle.saturation.specs.HeadSteps.{EndsOf, AllOf}
 
 -- the first of a chain, and the chain after it
 unlink : {count r : ℕ} {nexts rest : List ℕ} → Chain count nexts r rest → r < count → (rs : List ℕ) × (rest ≡ r ∷ rs) × Chain count nexts (getD nexts r 0) rs
 unlink (ended h) l = absurd (omega arith)
 unlink (linked {rs = rs} h c) l = (rs, refl, c)
 
-no-more : {count r : ℕ} {nexts rest : List ℕ} → Chain count nexts r rest → count ≤ r → rest ≡ []
+pub no-more : {count r : ℕ} {nexts rest : List ℕ} → Chain count nexts r rest → count ≤ r → rest ≡ []
 no-more (ended h) l = refl
 no-more (linked h c) l = absurd (omega arith)
 
 pub chain-below : {count r : ℕ} {nexts rest : List ℕ} → Chain count nexts r rest → (s : ℕ) → s ∈ rest → s < count
 chain-below (ended h) s m = absurd (List·Memᴰ·not-nil m)
 chain-below {count} (linked {r = r} h c) s m = ⊎-elim (λ (e : s ≡ r). subst (λ (i : ℕ). i < count) (sym e) h) (λ i. chain-below c s i) (List·Memᴰ·cases-cons m)
-
--- the rules of a chain passed have no set, and the rest is to be looked at
-pub record Looking (n : ℕ) (grown : List ℕ) (count : ℕ) (nexts : List ℕ) (first r : ℕ) : Type 0 where
-  pub after : first ≤ r
-  pub looks : (chain : List ℕ) → Chain count nexts first chain
-      → (rest : List ℕ) × Chain count nexts r rest × ((s : ℕ) → s ∈ chain → s ∈ rest ⊎ ((x : ℕ) → x / 64 < n → holds grown (s * n) x ≡ false))
-
-module _ (n : ℕ) (grown : List ℕ) (count : ℕ) (nexts : List ℕ) (first : ℕ) where
-  pub looking-starts : Looking n grown count nexts first first
-  looking-starts = record { after = omega arith; looks = λ chain c. (chain, c, λ s m. inl m) }
-
-  pub looking-on : (r : ℕ) → Looking n grown count nexts first r → r < count → Climbs nexts count → ((x : ℕ) → x / 64 < n → holds grown (r * n) x ≡ false)
-      → Looking n grown count nexts first (getD nexts r 0)
-  looking-on r k l up none =
-      record {
-        after = omega (arith, k .after, up r l);
-        looks =
-            λ chain c.
-            let w = k .looks chain c in
-            let u = unlink (w .1) l in (
-              u .0,
-              u .2,
-              λ s m.
-                  ⊎-elim
-                  (λ i.
-                  ⊎-elim (λ (e : s ≡ r). inr (λ x lx. subst (λ (j : ℕ). holds grown (j * n) x ≡ false) (sym e) (none x lx))) inl
-                  (List·Memᴰ·cases-cons (subst (λ (xs : List ℕ). s ∈ xs) (u .1) i)))
-                  inr
-                  (w .2 s m),
-            );
-      }
-
-  pub looking-ends : (r : ℕ) → Looking n grown count nexts first r → count ≤ r → (chain : List ℕ) → Chain count nexts first chain → Still n grown chain
-  looking-ends r k l chain c =
-      let w = k .looks chain c in
-      record {
-        none =
-            λ s m.
-            ⊎-elim (λ i. absurd (List·Memᴰ·not-nil (subst (λ (xs : List ℕ). s ∈ xs) (no-more (w .1) l) i))) (λ h. h) (w .2 s m);
-      }
 
 -- unions of one set for each rule taken are in hand, and one of each of the rest is to be united with them
 module _ (el : List ℕ) (states : ℕ) (ok : Elements el states) (n : ℕ) (room : (x : ℕ) → x < 2 ^ length el → x / 64 < n) (ends : List ℕ) (f : ℕ → List ℕ) (count : ℕ) (nexts chain : List ℕ) (families : EndsOf el n ends f chain) where

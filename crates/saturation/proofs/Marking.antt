@@ -15,12 +15,12 @@ use Rattle.game.specs.ListLaws.{test, clash}
 use Rattle.game.specs.Game.{PushdownGame}
 use Rattle.table.specs.Table.{Entry}
 use Rattle.family.specs.Family.{holds}
-use Rattle.saturation.specs.Expand.{AllWithin}
-use Rattle.saturation.specs.Pool.{Head, Layout, HeadsHold, HeadsGrew}
-use Rattle.saturation.specs.PoolLaws.{next-row, head-within}
-use Rattle.saturation.specs.Finding.{Fresh}
+use Rattle.unions.specs.Expand.{AllWithin}
+use Rattle.unions.specs.Pool.{Head, Layout, HeadsHold, HeadsGrew}
+use Rattle.unions.specs.PoolLaws.{next-row, head-within}
+use Rattle.unions.specs.Finding.{Fresh}
 use Rattle.saturation.specs.Marks.{Marked, Dead}
-use Rattle.saturation.proofs.Passes.{place-small, one-shifted}
+use Rattle.unions.specs.PlaceLaws.{place-small, one-shifted}
 
 -- where a head's family is, the state as the code has it
 module _ (r state letters c heads : ℕ) (e : r ≡ state) (l : state * letters + letters ≤ heads) (m : c < letters) where

@@ -22,13 +22,12 @@ use Rattle.rounds.specs.AddLaws.{Absent, add-old, add-in, add-there}
 use Rattle.rounds.specs.EndsRange.{Proper}
 use Rattle.rounds.specs.Candidates.{Gives, parts, gives-proper}
 use Rattle.rounds.specs.RoundLaws.{Born, AllRanged, next-ranged}
-use Rattle.saturation.specs.Expand.{expand, Elements}
-use Rattle.saturation.specs.ExpandLaws.{expand-same}
-use Rattle.saturation.specs.Pool.{Head}
-use Rattle.saturation.specs.Ending.{OfWord}
+use Rattle.unions.specs.Expand.{expand, Elements}
+use Rattle.unions.specs.ExpandLaws.{expand-same}
+use Rattle.unions.specs.Pool.{Head}
+use Rattle.unions.specs.Ending.{OfWord, Passed}
 use Rattle.saturation.specs.Taking.{Taking, head-entry, entry-head, beyond, noted-more}
 use Rattle.saturation.specs.Offers.{Offer, More, Noting}
-use Rattle.saturation.proofs.Summing.{Passed}
 
 -- one entry
 module _ (el : List ℕ) (g : PushdownGame) (good : Good g) (es : List Entry) (asc : Ascending es) (ranged : AllRanged g es) (b : ℕ) (log : List ℕ) (count : ℕ) (now : List Entry) (t : Taking el g es b log count now) (p a rule x : ℕ) (lp : p < g .control) (la : a < g .letters) (offer : Offer el g es now p a rule x) where

@@ -11,6 +11,7 @@ use lib.ListN.{length-set}
 use lib.Arith.{digits-lt}
 use lib.Dec.{eqb}
 use borrow.Author.Tests.{eq-eqb, eqb-true, eqb-false}
+use Rattle.game.specs.Sets.{has}
 use Rattle.game.specs.ListLaws.{_∈_, test, clash, both, either, conj, left-or, right-or, below-suc, map-in}
 use Rattle.game.specs.Game.{Transition, PushdownGame}
 use Rattle.game.specs.GoodGame.{Good, GoodTarget, Distinct}
@@ -27,13 +28,13 @@ use Rattle.rounds.specs.Growing.{absent-longer}
 use Rattle.rounds.specs.Candidates.{parts}
 use Rattle.rounds.specs.InsertLaws.{getD-in, in-getD}
 use Rattle.rounds.specs.RoundLaws.{roundTable, zero-is}
-use Rattle.saturation.specs.Expand.{expand, Within}
-use Rattle.saturation.specs.ExpandLaws.{expand-same}
-use Rattle.saturation.specs.ElementsOf.{ElementsOf, HeldTargets}
-use Rattle.saturation.specs.Pool.{Is, Head, Layout}
-use Rattle.saturation.specs.PoolLaws.{apart}
-use Rattle.saturation.specs.JoinLaws.{is-as}
-use Rattle.saturation.specs.Log.{noted}
+use Rattle.unions.specs.Expand.{expand, Within}
+use Rattle.unions.specs.ExpandLaws.{expand-same}
+use Rattle.unions.specs.ElementsOf.{ElementsOf, HeldTargets}
+use Rattle.unions.specs.Pool.{Is, Head, Layout}
+use Rattle.unions.specs.PoolLaws.{apart}
+use Rattle.unions.specs.JoinLaws.{is-as}
+use Rattle.unions.specs.Log.{noted}
 use Rattle.saturation.specs.Taking.{head-entry, entry-head}
 use Rattle.saturation.specs.RoundZero.{Bare, Started, Starts}
 use Rattle.saturation.proofs.HeadNumbers.{same-head}
@@ -99,20 +100,26 @@ abbrev pub Sofar : PushdownGame → ℕ → ℕ → ℕ → ℕ → Type 0
 Sofar g t q a z = (k : ℕ) × (k < t) × (getD (g .targets) k noTransition .state ≡ q) × (getD (g .targets) k noTransition .letter ≡ a) × (getD (g .targets) k noTransition .set ≡ z)
 
 -- the transitions before place t are noted
-pub record Begun (el : List ℕ) (g : PushdownGame) (n t : ℕ) (log all new : List ℕ) : Type 0 where
+pub record Begun (el : List ℕ) (g : PushdownGame) (n t : ℕ) (log all new news : List ℕ) : Type 0 where
   pub hold : (q a : ℕ) → q < g .states → a < g .letters → Is el n all ((q * g .letters + a) * n) (Sofar g t q a)
   pub more : (q a : ℕ) → q < g .states → a < g .letters → Is el n new ((q * g .letters + a) * n) (Sofar g t q a)
   pub small : (k : ℕ) → k < t → getD log (k * 3 + 1) 0 < 2 ^ length el
   pub notes : (k : ℕ) → k < t → noted el log k ≡ targetEntry (getD (g .targets) k noTransition)
+  pub marks : (k : ℕ) → k < t → has (getD news (getD (g .targets) k noTransition .state) 0) (getD (g .targets) k noTransition .letter) ≡ true
+
+-- a head is marked, and those marked before are
+abbrev pub Marking : ℕ → ℕ → List ℕ → List ℕ → Type 0
+Marking p a news news′ = (q c : ℕ) → has (getD news′ q 0) c ≡ false → (has (getD news q 0) c ≡ false) × (q ≡ p → c ≡ a → ⊥)
 
 -- nothing is noted yet
-pub begun-none : (el : List ℕ) (g : PushdownGame) (n : ℕ) (log all new : List ℕ) → Layout el g n → Bare g n all → Bare g n new → Begun el g n 0 log all new
-begun-none el g n log all new lay bare bare′ =
+pub begun-none : (el : List ℕ) (g : PushdownGame) (n : ℕ) (log all new news : List ℕ) → Layout el g n → Bare g n all → Bare g n new → Begun el g n 0 log all new news
+begun-none el g n log all new news lay bare bare′ =
     record {
       hold = λ q a lq la. none all ((q * g .letters + a) * n) q a (λ x l. bare q a x lq la l);
       more = λ q a lq la. none new ((q * g .letters + a) * n) q a (λ x l. bare′ q a x lq la l);
       small = λ k l. absurd (omega arith);
       notes = λ k l. absurd (omega arith);
+      marks = λ k l. absurd (omega arith);
     }
   where
     none : (words : List ℕ) (at q a : ℕ) → ((x : ℕ) → x / 64 < n → holds words at x ≡ false) → Is el n words at (Sofar g 0 q a)
@@ -180,10 +187,10 @@ module _ (el : List ℕ) (g : PushdownGame) (n : ℕ) (lay : Layout el g n) (t :
           (apart f head n y (eqb-false f head d) l)))
           (test (eqb f head))
 
-  pub begun-on : (first : ℕ) (log log′ all all′ new new′ : List ℕ) → first ≡ transition .state + 256 * transition .letter → g .states ≤ 32 → g .letters ≤ 64 → t * 3 + 2 < length log
+  pub begun-on : (first : ℕ) (log log′ all all′ new new′ news news′ : List ℕ) → first ≡ transition .state + 256 * transition .letter → g .states ≤ 32 → g .letters ≤ 64 → t * 3 + 2 < length log
       → Put all (head * n) x all′ → Put new (head * n) x new′ → log′ ≡ set (set (set log (t * 3) first) (t * 3 + 1) x) (t * 3 + 2) 0
-      → Begun el g n t log all new → Begun el g n (t + 1) log′ all′ new′
-  begun-on first log log′ all all′ new new′ ef ls ll room pa pn e b =
+      → Marking (transition .state) (transition .letter) news news′ → Begun el g n t log all new news → Begun el g n (t + 1) log′ all′ new′ news′
+  begun-on first log log′ all all′ new new′ news news′ ef ls ll room pa pn e mark b =
       rw e
       (record {
         hold = λ q a lq la. put-is all all′ q a la pa (b .hold q a lq la);
@@ -198,6 +205,16 @@ module _ (el : List ℕ) (g : PushdownGame) (n : ℕ) (lay : Layout el g n) (t :
             ⊎-elim (λ (m : k < t). earlier k m ∙ b .notes k m)
             (λ (m : k ≡ t). ap (noted el log₃) m ∙ last ∙ ap (λ (i : ℕ). targetEntry (getD (g .targets) i noTransition)) (sym m))
             (below-suc (subst (λ (i : ℕ). k < i) plus l));
+        marks =
+            λ k l.
+            ⊎-elim (λ on. on)
+            (λ (off : has (getD news′ (getD (g .targets) k noTransition .state) 0) (getD (g .targets) k noTransition .letter) ≡ false).
+            let was = mark (getD (g .targets) k noTransition .state) (getD (g .targets) k noTransition .letter) off in
+            ⊎-elim (λ (m : k < t). clash (b .marks k m) (was .0))
+            (λ (m : k ≡ t).
+            absurd (was .1 (ap (λ (i : ℕ). getD (g .targets) i noTransition .state) m) (ap (λ (i : ℕ). getD (g .targets) i noTransition .letter) m)))
+            (below-suc (subst (λ (i : ℕ). k < i) plus l)))
+            (test (has (getD news′ (getD (g .targets) k noTransition .state) 0) (getD (g .targets) k noTransition .letter)));
       })
     where
       plus : t + 1 ≡ suc t
@@ -239,9 +256,9 @@ module _ (el : List ℕ) (g : PushdownGame) (n : ℕ) (lay : Layout el g n) (t :
       earlier k l = rw (before (k * 3) (omega arith), before (k * 3 + 1) (omega arith), before (k * 3 + 2) (omega arith))
 
 -- all of them
-pub begun-all : (el : List ℕ) (g : PushdownGame) (good : Good g) (n : ℕ) (log all new : List ℕ) → ((t : Transition) → t ∈ g .targets → Within el (t .set))
-    → Begun el g n (length (g .targets)) log all new → Started el g n log all new (length (g .targets))
-begun-all el g good n log all new within b =
+pub begun-all : (el : List ℕ) (g : PushdownGame) (good : Good g) (n : ℕ) (log all new news : List ℕ) → ((t : Transition) → t ∈ g .targets → Within el (t .set))
+    → Begun el g n (length (g .targets)) log all new news → Started el g n log all new news (length (g .targets))
+begun-all el g good n log all new news within b =
     record {
       logged =
           record {
@@ -257,6 +274,13 @@ begun-all el g good n log all new within b =
       hold = λ q a lq la. is-as (b .hold q a lq la) (there q a) (back q a);
       grew = λ q a lq la. let is = is-as (b .more q a lq la) (there q a) (back q a) in record { from = is .from; into = λ x l h. inr (is .into x l h) };
       within = λ e m. let t = zero-from g good e m in subst (λ (v : Entry). Within el (v .set)) (sym (t .2)) (within (t .0) (t .1));
+      marked =
+          λ q a z lq la off h.
+          let s = back q a z h in
+          clash
+          (subst (λ (v : ℕ). has (getD news v 0) a ≡ true) (s .2)
+          (subst (λ (v : ℕ). has (getD news (getD (g .targets) (s .0) noTransition .state) 0) v ≡ true) (s .3) (b .marks (s .0) (s .1))))
+          off;
     }
   where
     there : (q a z : ℕ) → Sofar g (length (g .targets)) q a z → Head (roundZero g) q a z
@@ -308,23 +332,25 @@ target g el count states sizes rules targets numbers letters heads n targetcount
       bare-new = bare′;
     }
 
-module _ (targets numbers : List ℕ) (letters heads n targetcount : ℕ) (all₀ new₀ log₀ : List ℕ) where
+module _ (targets numbers : List ℕ) (letters heads n targetcount : ℕ) (all₀ new₀ log₀ news₀ : List ℕ) where
   -- the transitions before place t are noted, whatever game the words hold
-  pub record Starting (log all new : List ℕ) (t : ℕ) : Type 0 where
+  pub record Starting (log all new news : List ℕ) (t : ℕ) : Type 0 where
     pub below : t ≤ targetcount
     pub areas : length all ≡ length all₀
-    pub news : length new ≡ length new₀
+    pub newer : length new ≡ length new₀
     pub same : length log ≡ length log₀
-    pub begun : (g : PushdownGame) (el : List ℕ) → Target g el targets numbers letters heads n targetcount all₀ new₀ → Begun el g n t log all new
+    pub tidings : length news ≡ length news₀
+    pub begun : (g : PushdownGame) (el : List ℕ) → Target g el targets numbers letters heads n targetcount all₀ new₀ → Begun el g n t log all new news
 
-  pub starting-first : Starting log₀ all₀ new₀ 0
+  pub starting-first : Starting log₀ all₀ new₀ news₀ 0
   starting-first =
       record {
         below = omega arith;
         areas = refl;
-        news = refl;
+        newer = refl;
         same = refl;
-        begun = λ g el k. begun-none el g n log₀ all₀ new₀ (k .layout) (k .bare) (k .bare-new);
+        tidings = refl;
+        begun = λ g el k. begun-none el g n log₀ all₀ new₀ news₀ (k .layout) (k .bare) (k .bare-new);
       }
 
   module _ (t : ℕ) (lt : t < targetcount) (g : PushdownGame) (el : List ℕ) (k : Target g el targets numbers letters heads n targetcount all₀ new₀) where
@@ -379,26 +405,26 @@ module _ (targets numbers : List ℕ) (letters heads n targetcount : ℕ) (all�
 
       pub starting-begun : (head : ℕ) → (getD targets (t * 3) 0 < 32 → getD targets (t * 3 + 1) 0 < 64 → getD targets (t * 3) 0 * letters + getD targets (t * 3 + 1) 0 < heads
           → head ≡ getD targets (t * 3) 0 * letters + getD targets (t * 3 + 1) 0)
-          → (log log′ all all′ new new′ : List ℕ) → t * 3 + 2 < length log → Put all (head * n) x all′ → Put new (head * n) x new′
+          → (log log′ all all′ new new′ news news′ : List ℕ) → t * 3 + 2 < length log → Put all (head * n) x all′ → Put new (head * n) x new′
           → log′ ≡ set (set (set log (t * 3) (getD targets (t * 3) 0 + 256 * getD targets (t * 3 + 1) 0)) (t * 3 + 1) x) (t * 3 + 2) 0
-          → Begun el g n t log all new → Begun el g n (t + 1) log′ all′ new′
-      starting-begun head hh log log′ all all′ new new′ room pa pn e b =
-          begun-on el g n (k .layout) t inside head x (set-is .0) good-at (head-is head hh) (set-is .1) (getD targets (t * 3) 0 + 256 * getD targets (t * 3 + 1) 0) log log′ all all′ new new′
+          → Marking (getD targets (t * 3) 0) (getD targets (t * 3 + 1) 0) news news′ → Begun el g n t log all new news → Begun el g n (t + 1) log′ all′ new′ news′
+      starting-begun head hh log log′ all all′ new new′ news news′ room pa pn e mark b =
+          begun-on el g n (k .layout) t inside head x (set-is .0) good-at (head-is head hh) (set-is .1) (getD targets (t * 3) 0 + 256 * getD targets (t * 3 + 1) 0) log log′ all all′ new new′ news news′
           (omega (arith, state-is, letter-is))
           (k .good .ranged .states)
           (k .good .ranged .letters)
-          room pa pn e b
+          room pa pn e (λ q c off. let w = mark q c off in (w .0, λ eq ec. w .1 (eq ∙ sym state-is) (ec ∙ sym letter-is))) b
 
-  pub starting-ends : (log all new : List ℕ) (t : ℕ) → targetcount ≤ t → Starting log all new t → (size : ℕ) → targetcount ≤ size → (g : PushdownGame) (el : List ℕ)
-      → Target g el targets numbers letters heads n targetcount all₀ new₀ → Starts el g n size log all new targetcount
-  starting-ends log all new t l s size fits g el k =
+  pub starting-ends : (log all new news : List ℕ) (t : ℕ) → targetcount ≤ t → Starting log all new news t → (size : ℕ) → targetcount ≤ size → (g : PushdownGame) (el : List ℕ)
+      → Target g el targets numbers letters heads n targetcount all₀ new₀ → Starts el g n size log all new news targetcount
+  starting-ends log all new news t l s size fits g el k =
       let same : t ≡ length (g .targets) = omega (arith, l, s .below, k .counted) in
       inr (
         fits,
-        subst (Started el g n log all new) (sym (k .counted))
-            (begun-all el g (k .good) n log all new (k .elements .targets) (subst (λ (i : ℕ). Begun el g n i log all new) same (s .begun g el k))),
+        subst (Started el g n log all new news) (sym (k .counted))
+            (begun-all el g (k .good) n log all new news (k .elements .targets) (subst (λ (i : ℕ). Begun el g n i log all new news) same (s .begun g el k))),
       )
 
-  pub starting-beyond : (log all new : List ℕ) (size : ℕ) → size < targetcount → (g : PushdownGame) (el : List ℕ)
-      → Target g el targets numbers letters heads n targetcount all₀ new₀ → Starts el g n size log all new (size + 1)
-  starting-beyond log all new size l g el k = inl (refl, omega (arith, l, k .counted, zero-length g (k .good)))
+  pub starting-beyond : (log all new news : List ℕ) (size : ℕ) → size < targetcount → (g : PushdownGame) (el : List ℕ)
+      → Target g el targets numbers letters heads n targetcount all₀ new₀ → Starts el g n size log all new news (size + 1)
+  starting-beyond log all new news size l g el k = inl (refl, omega (arith, l, k .counted, zero-length g (k .good)))

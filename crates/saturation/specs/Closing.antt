@@ -1,73 +1,49 @@
--- The end of a round, for one head.
+-- The end of a round: what the heads have on the way, and at the end.
 use Prim.Native.Nat.{ℕ, _+_, _*_, _/_, _^_, _<_, _≤_}
-use native.Mathlib.Omega.{arith}
-use mathlib.Core.Path.{_≡_, sym, _∙_}
-use mathlib.Core.Logic.{_⊎_, inl, inr, ⊎-elim}
-use mathlib.Core.Bool.{true, false}
+use mathlib.Core.Path.{_≡_}
+use mathlib.Core.Logic.{_⊎_}
+use mathlib.Core.Bool.{Bool, true, false}
 use mathlib.Core.List.{List}
-use lib.ListN.{length}
-use Rattle.game.specs.ListLaws.{clash, either, left-or, right-or}
+use lib.ListN.{length, getD}
+use Rattle.game.specs.Sets.{has}
 use Rattle.game.specs.Game.{PushdownGame}
 use Rattle.table.specs.Table.{Entry}
-use Rattle.family.specs.Family.{holds, Joined, Copied, Cleared}
-use Rattle.saturation.specs.Expand.{expand}
-use Rattle.saturation.specs.Pool.{Is, Grew, Head, HeadsHold, HeadsGrew}
+use Rattle.family.specs.Family.{holds}
+use Rattle.unions.specs.Expand.{expand}
+use Rattle.unions.specs.Pool.{Head, HeadsHold, HeadsGrew}
+use Rattle.saturation.specs.Offers.{Adding}
 
--- it has the transitions of the new table, what it has more is at hand, and nothing is added yet
-pub record Closed (el : List ℕ) (n : ℕ) (es after : List Entry) (q a at : ℕ) (all new added : List ℕ) : Type 0 where
-  pub holds-new : Is el n all at (Head after q a)
-  pub grew : Grew el n new at (Head after q a) (Head es q a)
-  pub none : (x : ℕ) → x / 64 < n → holds added at x ≡ false
-
--- nothing is added yet to any head of a control state
-abbrev pub Idle : PushdownGame → ℕ → List ℕ → Type 0
-Idle g n added = (p a : ℕ) → p < g .control → a < g .letters → (x : ℕ) → x / 64 < n → holds added ((p * g .letters + a) * n) x ≡ false
-
--- every head; those of further states have no new transitions
+-- every head has the transitions of the new table, what it has more is at hand, and what is left of the round's sets is in the table
 pub record Ready (el : List ℕ) (g : PushdownGame) (n : ℕ) (es after : List Entry) (all new added : List ℕ) : Type 0 where
   pub hold : HeadsHold el g n after all
   pub grew : HeadsGrew el g n es after new
-  pub idle : Idle g n added
+  pub idle : Adding el g n after after added
 
-pub closed : (el : List ℕ) (n : ℕ) (es after : List Entry) (q a at : ℕ) (all all′ new new′ added added′ : List ℕ) → ((x : ℕ) → x < 2 ^ length el → x / 64 < n)
-    → ((z : ℕ) → Head es q a z → Head after q a z) → Is el n all at (Head es q a) → Grew el n added at (Head after q a) (Head es q a) → Joined all at n added at all′
-    → Copied new at n added at new′ → Cleared added at n added′ → Closed el n es after q a at all′ new′ added′
-closed el n es after q a at all all′ new new′ added added′ room kept is grew j c z =
-    record {
-      holds-new =
-          record {
-            from =
-                λ x l h.
-                ⊎-elim (λ k. let r = is .from x l k in (r .0, kept (expand el x) (r .1))) (λ k. grew .from x l k)
-                (either (holds all at x) (holds added at x) (sym (j .here x l) ∙ h));
-            into =
-                λ x l m.
-                j .here x (room x l)
-                ∙ ⊎-elim (λ k. left-or (holds added at x) (is .into x l k)) (λ k. right-or (holds all at x) k) (grew .into x l m);
-          };
-      grew =
-          record {
-            from = λ x l h. grew .from x l (sym (c .here x l) ∙ h);
-            into = λ x l m. ⊎-elim inl (λ k. inr (c .here x (room x l) ∙ k)) (grew .into x l m);
-          };
-      none = λ x l. z .here at x (omega arith) (omega arith);
-    }
+-- every element of a set is in another
+abbrev pub Includes : ℕ → ℕ → Type 0
+Includes more less = (k : ℕ) → has less k ≡ true → has more k ≡ true
 
--- where nothing was added only what it had more is emptied
-pub closed-none : (el : List ℕ) (n : ℕ) (es after : List Entry) (q a at : ℕ) (all new new′ added : List ℕ) → ((x : ℕ) → x < 2 ^ length el → x / 64 < n)
-    → ((z : ℕ) → Head es q a z → Head after q a z) → Is el n all at (Head es q a) → Grew el n added at (Head after q a) (Head es q a)
-    → ((x : ℕ) → x / 64 < n → holds added at x ≡ false) → Cleared new at n new′ → Closed el n es after q a at all new′ added
-closed-none el n es after q a at all new new′ added room kept is grew none z =
-    record {
-      holds-new =
-          record {
-            from = λ x l h. let r = is .from x l h in (r .0, kept (expand el x) (r .1));
-            into = λ x l m. ⊎-elim (λ k. is .into x l k) (λ k. clash k (none x (room x l))) (grew .into x l m);
-          };
-      grew =
-          record {
-            from = λ x l h. clash h (z .here at x (omega arith) (omega arith));
-            into = λ x l m. ⊎-elim inl (λ k. clash k (none x (room x l))) (grew .into x l m);
-          };
-      none = none;
-    }
+-- a head has no more than in an older table
+abbrev pub Still : List Entry → List Entry → ℕ → ℕ → Type 0
+Still es after q a = (z : ℕ) → Head after q a z → Head es q a z
+
+-- what a head has lies between two tables, and nothing is new that is not in the later one
+pub record Between (el : List ℕ) (n : ℕ) (es after : List Entry) (q a at : ℕ) (all new : List ℕ) : Type 0 where
+  pub from : (x : ℕ) → x / 64 < n → holds all at x ≡ true → (x < 2 ^ length el) × Head after q a (expand el x)
+  pub into : (x : ℕ) → x < 2 ^ length el → Head es q a (expand el x) → holds all at x ≡ true
+  pub news : (x : ℕ) → x / 64 < n → holds new at x ≡ true → (x < 2 ^ length el) × Head after q a (expand el x)
+
+-- a head of a control state: while it is open, what it was given is added; once it is closed, it has all of the later table, what is
+-- more than in the older one is new, and its mark is in two sets of elements if there is any
+pub record Stage (el : List ℕ) (n : ℕ) (es after : List Entry) (q a at : ℕ) (is-open : Bool) (mark fresh alive : ℕ) (all new added : List ℕ) : Type 0 where
+  pub given : (x : ℕ) → x / 64 < n → holds added at x ≡ true → (x < 2 ^ length el) × Head after q a (expand el x)
+  pub left : is-open ≡ true → (x : ℕ) → x < 2 ^ length el → Head after q a (expand el x) → Head es q a (expand el x) ⊎ (holds added at x ≡ true)
+  pub full : is-open ≡ false → (x : ℕ) → x < 2 ^ length el → Head after q a (expand el x) → holds all at x ≡ true
+  pub more : is-open ≡ false → (x : ℕ) → x < 2 ^ length el → Head after q a (expand el x) → Head es q a (expand el x) ⊎ (holds new at x ≡ true)
+  pub noted : is-open ≡ false → Still es after q a ⊎ (Includes fresh mark × Includes alive mark)
+
+-- all heads; those of control states are open by a word for each state and a bit for each letter
+pub record Halfway (el : List ℕ) (g : PushdownGame) (n : ℕ) (es after : List Entry) (numbers opens all new added fresh alive : List ℕ) : Type 0 where
+  pub between : (q a : ℕ) → q < g .states → a < g .letters → Between el n es after q a ((q * g .letters + a) * n) all new
+  pub stages : (p a : ℕ) → p < g .control → a < g .letters
+      → Stage el n es after p a ((p * g .letters + a) * n) (has (getD opens p 0) a) (getD numbers p 0) (getD fresh a 0) (getD alive a 0) all new added

@@ -1,67 +1,62 @@
--- The heads below a number, closed one after another, and the elements that were given something, marked with them.
+-- The heads of a state, closed or emptied letter by letter, and the states one after another.
 use Prim.Native.Nat.{ℕ, _+_, _*_, _/_, _<_, _≤_}
 use mathlib.Core.Path.{_≡_}
 use mathlib.Core.Logic.{_⊎_}
 use mathlib.Core.Bool.{true, false}
 use mathlib.Core.List.{List}
-use lib.ListN.{length, getD}
+use lib.ListN.{length, getD, set}
 use Rattle.game.specs.Sets.{has}
 use Rattle.game.specs.Game.{PushdownGame}
 use Rattle.table.specs.Table.{Entry}
 use Rattle.family.specs.Family.{holds, Elsewhere}
-use Rattle.saturation.specs.Pool.{Is, Grew, Head, Layout, Kept, HeadsHold}
-use Rattle.saturation.specs.Closing.{Closed}
+use Rattle.unions.specs.Pool.{Layout, Kept}
+use Rattle.saturation.specs.Signs.{NoGains}
+use Rattle.saturation.specs.Closing.{Includes, Halfway}
 
--- what the heads below a number were given
-abbrev pub RowsGrew : List ℕ → PushdownGame → ℕ → List Entry → List Entry → ℕ → List ℕ → Type 0
-RowsGrew el g n es after rows added =
-    (q a : ℕ) → q < g .states → a < g .letters → q * g .letters + a < rows → Grew el n added ((q * g .letters + a) * n) (Head after q a) (Head es q a)
-
--- the heads before h are closed, the others are as they were
-pub record Closings (el : List ℕ) (g : PushdownGame) (n : ℕ) (es after : List Entry) (rows h : ℕ) (all new added : List ℕ) : Type 0 where
-  pub done : (q a : ℕ) → q < g .states → a < g .letters → q * g .letters + a < h → Closed el n es after q a ((q * g .letters + a) * n) all new added
-  pub hold : (q a : ℕ) → q < g .states → a < g .letters → h ≤ q * g .letters + a → Is el n all ((q * g .letters + a) * n) (Head es q a)
-  pub left : (q a : ℕ) → q < g .states → a < g .letters → h ≤ q * g .letters + a → q * g .letters + a < rows
-      → Grew el n added ((q * g .letters + a) * n) (Head after q a) (Head es q a)
-
--- every element of a set is in another
-abbrev pub Includes : ℕ → ℕ → Type 0
-Includes more less = (k : ℕ) → has less k ≡ true → has more k ≡ true
-
--- the head at a place has nothing new, or its mark is in a set of elements
-abbrev pub Entered : ℕ → List ℕ → ℕ → ℕ → ℕ → Type 0
-Entered n new at mark set = ((x : ℕ) → x / 64 < n → holds new at x ≡ false) ⊎ Includes set mark
-
--- for each letter more elements, and those that came to the first list came to the second
+-- for each letter more elements
 pub record Widened (fresh₀ alive₀ fresh alive : List ℕ) : Type 0 where
   pub news : length fresh ≡ length fresh₀
   pub lives : length alive ≡ length alive₀
   pub more : (c : ℕ) → Includes (getD fresh c 0) (getD fresh₀ c 0)
   pub grown : (c : ℕ) → Includes (getD alive c 0) (getD alive₀ c 0)
-  pub both : (c k : ℕ) → has (getD fresh c 0) k ≡ true → (has (getD fresh₀ c 0) k ≡ true) ⊎ (has (getD alive c 0) k ≡ true)
   pub few : ((c : ℕ) → c < 64 → getD alive₀ c 0 < 1024) → (c : ℕ) → c < 64 → getD alive c 0 < 1024
 
--- the heads of a state with the letters before a are closed, the first of which has number `base`
-pub record RowClosed (base letters a mark n : ℕ) (all₀ new₀ added₀ fresh₀ alive₀ all new added fresh alive : List ℕ) : Type 0 where
-  pub below : a ≤ letters
+-- families emptied, of the heads from `base` on whose letters are in a set
+pub record Thinned (base letters bits n : ℕ) (new₀ new : List ℕ) : Type 0 where
+  pub long : length new ≡ length new₀
+  pub fewer : (place x : ℕ) → holds new place x ≡ true → holds new₀ place x ≡ true
+  pub kept : (h x : ℕ) → x / 64 < n → ((a : ℕ) → a < letters → has bits a ≡ true → h ≡ base + a → ⊥) → holds new (h * n) x ≡ holds new₀ (h * n) x
+
+-- the heads of a state whose letters are in a set are closed but for a rest of it; the first head of the state has number `base`
+pub record RowClosed (base letters bits rest mark n : ℕ) (all₀ new₀ added₀ fresh₀ alive₀ all new added fresh alive : List ℕ) : Type 0 where
   pub areas : length all ≡ length all₀
   pub news : length new ≡ length new₀
   pub adds : length added ≡ length added₀
   pub aside : Elsewhere (base * n) (letters * n) all₀ all
-  pub apart : Elsewhere (base * n) (letters * n) new₀ new
   pub masks : Widened fresh₀ alive₀ fresh alive
-  pub entered : (c : ℕ) → c < a → Entered n new ((base + c) * n) mark (getD fresh c 0)
-  pub closes : (el : List ℕ) (g : PushdownGame) (es after : List Entry) (rows : ℕ) → Layout el g n → Kept es after → base + letters ≤ rows
-      → Closings el g n es after rows base all₀ new₀ added₀ → Closings el g n es after rows (base + a) all new added
+  pub closes : (el : List ℕ) (g : PushdownGame) (es after : List Entry) (numbers opens : List ℕ) (p : ℕ) → Layout el g n → Kept es after → g .control ≤ g .states → letters ≡ g .letters → base ≡ p * g .letters
+      → p < g .control → p < length opens → mark ≡ getD numbers p 0 → getD opens p 0 ≡ bits
+      → Halfway el g n es after numbers opens all₀ new₀ added₀ fresh₀ alive₀ → Halfway el g n es after numbers (set opens p rest) all new added fresh alive
 
--- the heads of the control states before p are closed
-pub record RowsClosed (control letters p : ℕ) (numbers : List ℕ) (n : ℕ) (all₀ new₀ added₀ fresh₀ alive₀ all new added fresh alive : List ℕ) : Type 0 where
+-- the heads of the control states before p are closed: their states are marked as those with news, and no longer as given something
+pub record RowsClosed (control letters p : ℕ) (numbers : List ℕ) (n : ℕ) (all₀ new₀ added₀ fresh₀ alive₀ news₀ gains₀ all new added fresh alive news gains : List ℕ) : Type 0 where
   pub below : p ≤ control
   pub areas : length all ≡ length all₀
-  pub news : length new ≡ length new₀
+  pub newer : length new ≡ length new₀
   pub adds : length added ≡ length added₀
+  pub tidings : length news ≡ length news₀
+  pub gainers : length gains ≡ length gains₀
   pub aside : Elsewhere 0 (control * letters * n) all₀ all
   pub masks : Widened fresh₀ alive₀ fresh alive
-  pub entered : (q c : ℕ) → q < p → c < letters → Entered n new ((q * letters + c) * n) (getD numbers q 0) (getD fresh c 0)
-  pub closes : (el : List ℕ) (g : PushdownGame) (es after : List Entry) → Layout el g n → Kept es after → HeadsHold el g n es all₀
-      → RowsGrew el g n es after (control * letters) added₀ → Closings el g n es after (control * letters) (p * letters) all new added
+  pub passed : (q : ℕ) → q < p → (getD news q 0 ≡ getD gains₀ q 0) × (getD gains q 0 ≡ 0)
+  pub coming : (q : ℕ) → p ≤ q → getD gains q 0 ≡ getD gains₀ q 0
+  pub closes : (el : List ℕ) (g : PushdownGame) (es after : List Entry) → Layout el g n → Kept es after → g .control ≤ g .states → control ≡ g .control → letters ≡ g .letters → NoGains g es after gains₀
+      → Halfway el g n es after numbers gains₀ all₀ new₀ added₀ fresh₀ alive₀ → Halfway el g n es after numbers gains all new added fresh alive
+
+-- the heads of states from `control` on that were marked have nothing new
+pub record RowsCleared (control letters n : ℕ) (new₀ news₀ new news : List ℕ) : Type 0 where
+  pub long : length new ≡ length new₀
+  pub tidings : length news ≡ length news₀
+  pub fewer : (place x : ℕ) → holds new place x ≡ true → holds new₀ place x ≡ true
+  pub kept : (h x : ℕ) → x / 64 < n → h < control * letters → holds new (h * n) x ≡ holds new₀ (h * n) x
+  pub signs : (q : ℕ) → q < control → getD news q 0 ≡ getD news₀ q 0

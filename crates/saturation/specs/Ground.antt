@@ -2,19 +2,21 @@
 use Prim.Native.Nat.{ℕ, suc, _+_, _*_, _<_, _≤_}
 use mathlib.Core.Path.{_≡_}
 use mathlib.Core.Logic.{_⊎_}
+use mathlib.Core.Bool.{true}
 use mathlib.Core.List.{List, _++_}
 use lib.ListN.{length, getD}
 use Rattle.game.specs.Game.{Rule, PushdownGame}
 use Rattle.game.specs.GoodGame.{Good}
 use Rattle.game.specs.Stored.{ruleBytes}
+use Rattle.game.specs.Win.{isAbelard}
 use Rattle.game.specs.ListLaws.{_∈_}
 use Rattle.table.specs.Table.{Entry}
 use Rattle.table.specs.Pairwise.{Ascending}
 use Rattle.family.specs.Masks.{Raising}
 use Rattle.rounds.specs.Rounds.{nextRound}
-use Rattle.saturation.specs.Pool.{Is, Grew, Pool, Fits, Kept}
-use Rattle.saturation.specs.Ending.{Growth, Listed, Masked, RuleEnds, RuleBefore, RuleFits}
-use Rattle.saturation.specs.Steps.{Ripe, Stepped, EloisesTo}
+use Rattle.unions.specs.Pool.{Is, Pool, Fits, Kept}
+use Rattle.unions.specs.Ending.{Growth, Listed, Masked, RuleEnds, RuleBefore, RuleFits}
+use Rattle.saturation.specs.Steps.{Ripe, Calm, Stepped, EloisesTo}
 
 -- what the code holds of a game in a round: Abelard's states, how many letters and rules there are, and the rules' bytes
 pub record Owned (g : PushdownGame) (abelard letters rulecount : ℕ) (rules : List ℕ) : Type 0 where
@@ -36,7 +38,7 @@ pub record Ground (el : List ℕ) (g : PushdownGame) (n : ℕ) (old es : List En
   pub ascending : Ascending es
 
 -- what the indices of a round need: the lengths of its areas, and that the bytes of the rules lead nowhere else
-pub record Areas (letters heads n rulecount size : ℕ) (rules states numbers all new keys rests hints fresh alive ends grown added log raising : List ℕ) : Type 0 where
+pub record Areas (letters heads n rulecount size : ℕ) (rules states numbers all new keys rests hints fresh alive ends added log raising : List ℕ) : Type 0 where
   pub fits : Fits letters heads n states all keys rests hints
   pub few : letters ≤ 64
   pub alike : length new ≡ length all
@@ -44,24 +46,24 @@ pub record Areas (letters heads n rulecount size : ℕ) (rules states numbers al
   pub masks : 512 ≤ length raising
   pub ruled : (r : ℕ) → r < rulecount → RuleFits rules letters heads r
   pub headed : (r : ℕ) → r < rulecount → getD rules (r * 6) 0 * letters + getD rules (r * 6 + 1) 0 < heads
+  pub owned : (r : ℕ) → r < rulecount → (getD rules (r * 6) 0 < 32) × (getD rules (r * 6 + 1) 0 < 64)
   pub some : rulecount ≤ 256
   pub ended : rulecount * n ≤ length ends
-  pub growing : length grown ≡ length ends
   pub giving : heads * n ≤ length added
   pub noting : size * 3 ≤ length log
   pub most : size ≤ 2048
 
--- The rules below number k are taken: their ends are those over the table, what they have more is at hand, and what Éloise's give is
--- noted.
-pub record RulesTo (el : List ℕ) (g : PushdownGame) (n heads : ℕ) (states : List ℕ) (old es : List Entry) (i b : ℕ) (now : List Entry) (k : ℕ) (all keys rests ends grown log added : List ℕ) (lines count : ℕ) : Type 0 where
+-- The rules below number k are taken: the ends of Abelard's are those over the table, the heads of which have more are marked, and what
+-- Éloise's give is noted.
+pub record RulesTo (el : List ℕ) (g : PushdownGame) (n heads : ℕ) (states : List ℕ) (old es : List Entry) (i b : ℕ) (now : List Entry) (k : ℕ) (all keys rests ends stirred gains log added : List ℕ) (lines count : ℕ) : Type 0 where
   pub pool : Pool el g n heads states es all keys rests lines
-  pub done : (r : Rule) → r ∈ g .rules → r .number < k → Is el n ends (r .number * n) (RuleEnds g es r)
-  pub grew : (r : Rule) → r ∈ g .rules → r .number < k → Grew el n grown (r .number * n) (RuleEnds g es r) (RuleBefore g old i r)
-  pub left : (r : Rule) → r ∈ g .rules → k ≤ r .number → Is el n ends (r .number * n) (RuleBefore g old i r)
-  pub stepped : Stepped el g n es b now (EloisesTo g es k) log added count
+  pub done : (r : Rule) → r ∈ g .rules → isAbelard g (r .from) ≡ true → r .number < k → Is el n ends (r .number * n) (RuleEnds g es r)
+  pub calm : (r : Rule) → r ∈ g .rules → r .number < k → Calm g old es i stirred r
+  pub left : (r : Rule) → r ∈ g .rules → isAbelard g (r .from) ≡ true → k ≤ r .number → Is el n ends (r .number * n) (RuleBefore g old i r)
+  pub stepped : Stepped el g n es b now (EloisesTo g es k) gains log added count
 
 -- or the round does not fit so many entries
-abbrev pub RulesTaken : List ℕ → PushdownGame → ℕ → ℕ → List ℕ → List Entry → List Entry → ℕ → ℕ → ℕ → List Entry → ℕ → List ℕ → List ℕ → List ℕ → List ℕ → List ℕ → List ℕ → List ℕ → ℕ → ℕ → Type 0
-RulesTaken el g n heads states old es i b size now k all keys rests ends grown log added lines count =
+abbrev pub RulesTaken : List ℕ → PushdownGame → ℕ → ℕ → List ℕ → List Entry → List Entry → ℕ → ℕ → ℕ → List Entry → ℕ → List ℕ → List ℕ → List ℕ → List ℕ → List ℕ → List ℕ → List ℕ → List ℕ → ℕ → ℕ → Type 0
+RulesTaken el g n heads states old es i b size now k all keys rests ends stirred gains log added lines count =
     ((count ≡ size + 1) × (size < length (nextRound g es b)))
-    ⊎ ((count ≤ size) × RulesTo el g n heads states old es i b now k all keys rests ends grown log added lines count)
+    ⊎ ((count ≤ size) × RulesTo el g n heads states old es i b now k all keys rests ends stirred gains log added lines count)

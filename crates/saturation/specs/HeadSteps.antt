@@ -1,7 +1,7 @@
 -- Abelard's heads: the unions of one end of each rule, offered to the head.
 use Prim.Native.Nat.{ℕ, _*_, _/_, _^_, _<_}
 use mathlib.Core.Path.{_≡_}
-use mathlib.Core.Bool.{true, false}
+use mathlib.Core.Bool.{true}
 use mathlib.Core.List.{List, _++_, map}
 use lib.ListN.{length}
 use Rattle.game.specs.Game.{Rule, PushdownGame, rulesOf}
@@ -15,15 +15,11 @@ use Rattle.family.specs.Family.{holds}
 use Rattle.family.specs.Masks.{Raising}
 use Rattle.rounds.specs.Rounds.{unions, ruleEnds}
 use Rattle.rounds.specs.RoundLaws.{AllRanged}
-use Rattle.saturation.specs.Expand.{expand, Within, AllWithin}
-use Rattle.saturation.specs.Pool.{Is, Layout, HeadsHold}
-use Rattle.saturation.specs.Ending.{Listed}
-use Rattle.saturation.specs.Steps.{EndsHold, EndsGrew, Ripe}
+use Rattle.unions.specs.Expand.{expand, Within, AllWithin}
+use Rattle.unions.specs.Pool.{Is, Layout, HeadsHold}
+use Rattle.unions.specs.Ending.{Listed}
+use Rattle.saturation.specs.Steps.{EndsHold, Calm, Ripe}
 use Rattle.saturation.specs.RuleLinks.{Linked}
-
--- none of the rules of a chain has a set in an area
-pub record Still (n : ℕ) (grown chain : List ℕ) : Type 0 where
-  pub none : (s : ℕ) → s ∈ chain → (x : ℕ) → x / 64 < n → holds grown (s * n) x ≡ false
 
 -- the families of the rules of a chain, each rule's at its number
 pub record EndsOf (el : List ℕ) (n : ℕ) (ends : List ℕ) (f : ℕ → List ℕ) (chain : List ℕ) : Type 0 where
@@ -39,8 +35,12 @@ pub record AllOf (el : List ℕ) (n : ℕ) (f : ℕ → List ℕ) (chain words :
 abbrev pub AbelardAt : PushdownGame → List Entry → ℕ → ℕ → ℕ → ℕ → ℕ → Type 0
 AbelardAt g es p a q c z = (q ≡ p) × (c ≡ a) × (isAbelard g q ≡ true) × (z ∈ unions (map (ruleEnds g es) (rulesOf g q c)))
 
+-- what the runs give the heads of state p on letters below k, if it is Abelard's
+abbrev pub AbelardsIn : PushdownGame → List Entry → ℕ → ℕ → ℕ → ℕ → ℕ → Type 0
+AbelardsIn g es p k q c z = (q ≡ p) × (c < k) × (isAbelard g q ≡ true) × (z ∈ unions (map (ruleEnds g es) (rulesOf g q c)))
+
 -- what the code has of a game, its rules one after another, and the families over a table and an older one
-pub record Ready (el : List ℕ) (g : PushdownGame) (n : ℕ) (old es : List Entry) (i : ℕ) (abelard control letters rulecount : ℕ) (rules ends grown firsts nexts raising all : List ℕ) : Type 0 where
+pub record Ready (el : List ℕ) (g : PushdownGame) (n : ℕ) (old es : List Entry) (i : ℕ) (abelard control letters rulecount : ℕ) (rules ends stirred firsts nexts raising all : List ℕ) : Type 0 where
   pub good : Good g
   pub owned : abelard ≡ g .abelard
   pub controls : control ≡ g .control
@@ -57,5 +57,5 @@ pub record Ready (el : List ℕ) (g : PushdownGame) (n : ℕ) (old es : List Ent
   pub within : AllWithin el es
   pub hold : HeadsHold el g n es all
   pub runs : EndsHold el g n es ends
-  pub grew : EndsGrew el g n old es i grown
+  pub calm : (r : Rule) → r ∈ g .rules → Calm g old es i stirred r
   pub ripe : Ripe g old es i

@@ -8,7 +8,7 @@ use Rattle.game.specs.Sets.{has}
 use Rattle.game.specs.Game.{PushdownGame}
 use Rattle.table.specs.Table.{Entry}
 use Rattle.family.specs.Family.{holds}
-use Rattle.saturation.specs.Pool.{Head}
+use Rattle.unions.specs.Pool.{Head}
 
 -- of the first `count` elements those that are not marked have no set on letter c in an area
 pub record Marked (n letters : ℕ) (states words : List ℕ) (c count set : ℕ) : Type 0 where

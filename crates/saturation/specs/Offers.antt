@@ -10,8 +10,9 @@ use Rattle.table.specs.Table.{Entry}
 use Rattle.family.specs.Family.{holds}
 use Rattle.rounds.specs.Rounds.{nextRound}
 use Rattle.rounds.specs.Candidates.{Gives}
-use Rattle.saturation.specs.Expand.{expand}
-use Rattle.saturation.specs.Pool.{Head, Grew}
+use Rattle.unions.specs.Expand.{expand}
+use Rattle.unions.specs.Pool.{Head, Grew}
+use Rattle.saturation.specs.Signs.{NoGains}
 use Rattle.saturation.specs.Taking.{Taking}
 
 -- set x of elements is given to a head by a rule field, the lowest, and is neither there nor noted
@@ -57,3 +58,12 @@ pub record Taken (el : List ℕ) (g : PushdownGame) (n : ℕ) (es : List Entry) 
 abbrev pub Given : List ℕ → PushdownGame → ℕ → List Entry → ℕ → ℕ → ℕ → ℕ → List Entry → List ℕ → ℕ → List ℕ → List ℕ → ℕ → Type 0
 Given el g n es b size p a now d at log added count =
     ((count ≡ size + 1) × (size < length (nextRound g es b))) ⊎ ((count ≤ size) × Taken el g n es b p a now d at n log added count)
+
+-- a head that is not marked was given nothing in the round
+pub record Spared (g : PushdownGame) (es now : List Entry) (gains : List ℕ) : Type 0 where
+  pub none : NoGains g es now gains
+
+abbrev pub Gave : List ℕ → PushdownGame → ℕ → List Entry → ℕ → ℕ → ℕ → ℕ → List Entry → List ℕ → ℕ → List ℕ → List ℕ → List ℕ → ℕ → Type 0
+Gave el g n es b size p a now d at gains log added count =
+    ((count ≡ size + 1) × (size < length (nextRound g es b)))
+    ⊎ ((count ≤ size) × ((t : Taken el g n es b p a now d at n log added count) × Spared g es (t .after) gains))

@@ -17,11 +17,11 @@ use Rattle.game.specs.ListLaws.{_∈_, test, conj, in-filter, flatMap-in}
 use Rattle.table.specs.Table.{Entry}
 use Rattle.rounds.specs.Rounds.{setsOf, ends}
 use Rattle.rounds.specs.InsertLaws.{getD-in, in-getD}
-use Rattle.saturation.specs.Expand.{expand, Elements, Within, AllWithin}
-use Rattle.saturation.specs.ExpandLaws.{expand-single}
-use Rattle.saturation.specs.UnionSteps.{unionsOf}
-use Rattle.saturation.specs.PoolLaws.{head-within, union-within}
-use Rattle.saturation.specs.Ending.{Listed, RuleEnds}
+use Rattle.unions.specs.Expand.{expand, Elements, Within, AllWithin}
+use Rattle.unions.specs.ExpandLaws.{expand-single}
+use Rattle.unions.specs.UnionSteps.{unionsOf}
+use Rattle.unions.specs.PoolLaws.{head-within, union-within}
+use Rattle.unions.specs.Ending.{Listed, RuleEnds}
 
 number-at : (m k : ℕ) (rs : List Rule) → Numbered m rs → k < length rs → getD rs k noRule .number ≡ m + k
 unfolding Numbered

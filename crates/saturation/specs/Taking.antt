@@ -22,9 +22,9 @@ use Rattle.rounds.specs.Candidates.{Gives}
 use Rattle.rounds.specs.EndsLaws.{setsOf-in, in-setsOf}
 use Rattle.rounds.specs.RoundLaws.{Born, AllRanged, next-is, next-ascending, key-of}
 use Rattle.rounds.specs.Growing.{absent-longer}
-use Rattle.saturation.specs.Expand.{expand}
-use Rattle.saturation.specs.Pool.{Head}
-use Rattle.saturation.specs.Log.{Log, noted}
+use Rattle.unions.specs.Expand.{expand}
+use Rattle.unions.specs.Pool.{Head}
+use Rattle.unions.specs.Log.{Log, noted}
 
 -- the entries noted are those of `now`: all old ones, and such as the round has
 pub record Taking (el : List ℕ) (g : PushdownGame) (es : List Entry) (b : ℕ) (log : List ℕ) (count : ℕ) (now : List Entry) : Type 0 where

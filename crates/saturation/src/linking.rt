@@ -1,7 +1,7 @@
 // The rules of each head one after another: the first rule of each head, by the head's number, and for each rule the next of its head.
-use crate::bytes::number_of;
 use game::Game;
 use rounds::next_rule;
+use unions::number_of;
 ghost use mathlib.Core.Path.{_≡_};
 ghost use Prim.Native.Nat.{ℕ, _+_, _*_, _<_, _≤_};
 ghost use lib.ListN.{length, getD};

@@ -1,15 +1,15 @@
 // For each letter the elements that have a transition on it, as sets of elements: those with a new one, and those with any.
-use crate::bytes::number_of;
 use family::is_empty_at;
+use unions::number_of;
 ghost use mathlib.Core.Path.{_≡_};
 ghost use mathlib.Core.List.{List};
 ghost use Prim.Native.Nat.{ℕ, _+_, _*_, _<_, _≤_};
 ghost use lib.ListN.{length, getD};
 ghost use Rattle.game.specs.Game.{PushdownGame};
 ghost use Rattle.table.specs.Table.{Entry};
-ghost use Rattle.saturation.specs.Expand.{AllWithin};
-ghost use Rattle.saturation.specs.Pool.{Layout, HeadsHold, HeadsGrew};
-ghost use Rattle.saturation.specs.Finding.{Fresh};
+ghost use Rattle.unions.specs.Expand.{AllWithin};
+ghost use Rattle.unions.specs.Pool.{Layout, HeadsHold, HeadsGrew};
+ghost use Rattle.unions.specs.Finding.{Fresh};
 ghost use Rattle.saturation.specs.Marks.{Marked, Dead};
 
 // For each letter the elements whose head has a set in `new`, and those whose head has one in `all`.

@@ -1,6 +1,7 @@
 // Sets that a round gives a head, noted as entries.
-use crate::ends::lowest_set;
-use crate::writing::put_entry;
+use crate::signs::mark;
+use unions::lowest_set;
+use unions::put_entry;
 ghost use mathlib.Core.Path.{_≡_};
 ghost use mathlib.Core.Bool.{true, false};
 ghost use mathlib.Core.List.{List};
@@ -12,11 +13,11 @@ ghost use Rattle.game.specs.GoodGame.{Good};
 ghost use Rattle.table.specs.Table.{Entry, firstWord};
 ghost use Rattle.table.specs.Pairwise.{Ascending};
 ghost use Rattle.rounds.specs.RoundLaws.{AllRanged};
-ghost use Rattle.saturation.specs.Expand.{Elements};
-ghost use Rattle.saturation.specs.Ending.{OfWord};
+ghost use Rattle.unions.specs.Expand.{Elements};
+ghost use Rattle.unions.specs.Ending.{OfWord};
 ghost use Rattle.saturation.specs.Taking.{Taking};
-ghost use Rattle.saturation.specs.Offers.{Offer, Noting, Adding, Offered, Given};
-ghost use Rattle.saturation.specs.Pool.{Layout, HeadsHold};
+ghost use Rattle.saturation.specs.Offers.{Offer, Noting, Adding, Offered, Given, Spared, Gave};
+ghost use Rattle.unions.specs.Pool.{Layout, HeadsHold};
 ghost use mathlib.Core.Logic.{_↔_};
 
 // The sets of a word, the first of which is `from`, as entries of a head with one birthdate and one rule field. How many entries there
@@ -94,6 +95,43 @@ pub fn offer(
         }
         j += 1;
     }
+    entries
+}
+
+// The same to head (p, a), which is marked if it was given something.
+pub fn give(
+    d: &[u64],
+    at: usize,
+    p: usize,
+    a: usize,
+    head: usize,
+    n: usize,
+    all: &[u64],
+    added: &mut [u64],
+    gains: &mut [u64],
+    log: &mut [u32],
+    count: usize,
+    size: usize,
+    first: u32,
+    rule: u32,
+) -> usize
+    requires { ⌜ (size * 3 ≤ length (now log)) × (count ≤ size) × (size ≤ 2048) × (n ≤ 16) × (at + n ≤ length (now d)) × (at ≤ 65536) × (head ≤ 2048)
+        × (head * n + n ≤ length (now all)) × (head * n + n ≤ length (now added)) × (p < length (now gains)) × (a < 64) ⌝ }
+    ensures { λ r. ⌜ ((el : List ℕ) (g : PushdownGame) (es now′ : List Entry) (b : ℕ) → Layout el g n → Good g → Ascending es → AllRanged g es
+        → Taking el g es b (now (log .entry)) count now′ → first ≡ firstWord p a b → p < g .control → a < g .letters → head ≡ p * g .letters + a
+        → HeadsHold el g n es (now (all .entry)) → Adding el g n es now′ (now (added .entry)) → Offered el g n es now′ p a rule (now (d .entry)) at
+        → Spared g es now′ (now (gains .entry))
+        → Gave el g n es b size p a now′ (now (d .entry)) at (now (gains .exit)) (now (log .exit)) (now (added .exit)) r) ⌝ }
+    ensures { λ r. ⌜ r ≤ size + 1 ⌝ }
+    ensures { λ _. ⌜ length (now (added .exit)) ≡ length (now (added .entry)) ⌝ }
+    ensures { λ _. ⌜ length (now (gains .exit)) ≡ length (now (gains .entry)) ⌝ }
+    ensures { λ _. ⌜ length (now (log .exit)) ≡ length (now (log .entry)) ⌝ }
+{
+    let entries = offer(d, at, head, n, all, added, log, count, size, first, rule);
+    if entries == count {
+        return entries;
+    }
+    mark(gains, p, a);
     entries
 }
 

@@ -1,17 +1,18 @@
-// Round 0: the target's transitions, noted as entries and put into the families of their heads.
-use crate::elements::element_set;
-use crate::writing::put_entry;
+// Round 0: the target's transitions, noted as entries and put into the families of their heads, which are marked.
+use crate::signs::mark;
 use family::put_at;
 use game::Game;
 use game::Sizes;
+use unions::element_set;
+use unions::put_entry;
 ghost use mathlib.Core.Path.{_≡_};
 ghost use mathlib.Core.List.{List};
 ghost use Prim.Native.Nat.{ℕ, _+_, _*_, _<_, _≤_};
 ghost use lib.ListN.{length, getD};
 ghost use Rattle.game.specs.Game.{PushdownGame};
 ghost use Rattle.game.specs.GoodGame.{Good};
-ghost use Rattle.saturation.specs.ElementsOf.{ElementsOf, HeldTargets};
-ghost use Rattle.saturation.specs.Pool.{Layout};
+ghost use Rattle.unions.specs.ElementsOf.{ElementsOf, HeldTargets};
+ghost use Rattle.unions.specs.Pool.{Layout};
 ghost use Rattle.saturation.specs.RoundZero.{Bare, Starts};
 
 // How many entries round 0 has, or one more than there may be. A head or a set that no game has ends it too.
@@ -26,18 +27,20 @@ pub fn note_targets(
     new: &mut [u64],
     log: &mut [u32],
     size: usize,
+    news: &mut [u64],
 ) -> usize
     requires { ⌜ (size * 3 ≤ length (now log)) × (size ≤ 2048) × (targetcount ≤ 256) × (targetcount * 3 ≤ length (now targets)) × (length (now numbers) ≡ 32)
         × ((q : ℕ) → q < 32 → getD (now numbers) q 0 < 1024) × (heads ≤ 2048) × (n ≤ 16) × (heads * n ≤ length (now all)) × (length (now new) ≡ length (now all))
-        × (letters ≤ 64) ⌝ }
+        × (letters ≤ 64) × (length (now news) ≡ 32) ⌝ }
     ensures { λ r. ⌜ ((g : PushdownGame) (el : List ℕ) (count : ℕ) (states : List ℕ) (sizes : Sizes) (rules : List ℕ) → HeldTargets g sizes rules (now (targets .entry)) → Good g
         → ElementsOf g el count states (now (numbers .entry)) → Layout el g n → letters ≡ g .letters → heads ≡ g .states * g .letters → targetcount ≡ length (g .targets)
         → Bare g n (now (all .entry)) → Bare g n (now (new .entry))
-        → Starts el g n size (now (log .exit)) (now (all .exit)) (now (new .exit)) r) ⌝ }
+        → Starts el g n size (now (log .exit)) (now (all .exit)) (now (new .exit)) (now (news .exit)) r) ⌝ }
     ensures { λ r. ⌜ r ≤ size + 1 ⌝ }
     ensures { λ _. ⌜ length (now (all .exit)) ≡ length (now (all .entry)) ⌝ }
     ensures { λ _. ⌜ length (now (new .exit)) ≡ length (now (new .entry)) ⌝ }
     ensures { λ _. ⌜ length (now (log .exit)) ≡ length (now (log .entry)) ⌝ }
+    ensures { λ _. ⌜ length (now (news .exit)) ≡ length (now (news .entry)) ⌝ }
 {
     if size < targetcount {
         return size + 1;
@@ -55,6 +58,7 @@ pub fn note_targets(
         }
         put_at(all, head * n, x);
         put_at(new, head * n, x);
+        mark(news, targets[at] as usize, targets[at + 1] as usize);
         put_entry(log, t * 3, targets[at] + 256 * targets[at + 1], x as u32, 0);
         t += 1;
     }

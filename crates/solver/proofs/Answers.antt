@@ -41,45 +41,43 @@ refusal-left (refused n p) AnswerDone e t next table work = absurd (miss (1 ∷ 
 refusal-left (done x) (AnswerRefused q k) e t next table work = absurd (let z : _≡_ {A = ℕ} 0 1 = cc in omega arith)
 refusal-left (refused n p) (AnswerRefused q k) e t next table work = cc
 
-module _ (file : List ℕ) (t w : ℕ) {table work : List ℕ} (zeros : table ≡ replicate t 0) (others : work ≡ replicate w 0) where
-  pub no-file : (r : Reading) → Reports (reading file) r → (a : Answer) → a ≡ r .answer → OneOf (1 ∷ []) (tagOf AnswerIs.the-type a)
-      → (s : Solution) → s ≡ refusedAs a → called s table work ≡ solveCall file t w
-  unfolding solveCall solvingWords
-  no-file r h a e k s f = rw (f, zeros, others) (refusal-left (reading file) a (ap said e ∙ h .answers) k _ t w)
+module _ (file : List ℕ) (t w : ℕ) {table : List ℕ} (zeros : table ≡ replicate t 0) where
+  long : length table ≡ t
+  long = ap length zeros ∙ length-replicate t 0
 
-  module _ (g : PushdownGame) (read : reading file ≡ done g) where
-    -- 10 is answered no
-    no-lengths : (eqb t w && lengthInForm t) ≡ false → called (Refused 10 0) table work ≡ solveCall file t w
-    unfolding solveCall solvingWords after leaving
-    no-lengths b = rw (zeros, others, read, b)
+  -- refusals: both areas are zero
+  module _ {work : List ℕ} (others : work ≡ replicate w 0) where
+    pub no-file : (r : Reading) → Reports (reading file) r → (a : Answer) → a ≡ r .answer → OneOf (1 ∷ []) (tagOf AnswerIs.the-type a)
+        → (s : Solution) → s ≡ refusedAs a → called s table work ≡ solveCall file t w
+    unfolding solveCall solvingWords
+    no-file r h a e k s f = rw (f, zeros, others) (refusal-left (reading file) a (ap said e ∙ h .answers) k _ t w)
 
-    pub unequal : (length table ≡ length work → ⊥) → called (Refused 10 0) table work ≡ solveCall file t w
-    unequal ne =
-        no-lengths
-        (ap (_&& lengthInForm t) (ne-eqb t w (λ e. ne (ap length zeros ∙ length-replicate t 0 ∙ e ∙ sym (ap length others ∙ length-replicate w 0)))))
+    module _ (g : PushdownGame) (read : reading file ≡ done g) where
+      -- 10 is answered no
+      no-lengths : (eqb t w && lengthInForm t) ≡ false → called (Refused 10 0) table work ≡ solveCall file t w
+      unfolding solveCall solvingWords after leaving
+      no-lengths b = rw (zeros, others, read, b)
 
-    module _ (e : length table ≡ length work) where
-      same : t ≡ w
-      same = sym (ap length zeros ∙ length-replicate t 0) ∙ e ∙ ap length others ∙ length-replicate w 0
+      pub unequal : (length table ≡ w → ⊥) → called (Refused 10 0) table work ≡ solveCall file t w
+      unequal ne = no-lengths (ap (_&& lengthInForm t) (ne-eqb t w (λ e. ne (long ∙ e))))
 
-      pub out-of-form : lengthInForm (length table) ≡ false → called (Refused 10 0) table work ≡ solveCall file t w
-      out-of-form b = no-lengths (ap (_&& lengthInForm t) (eq-eqb t w same) ∙ rw (ap length zeros ∙ length-replicate t 0) at b)
+      pub out-of-form : length table ≡ w → lengthInForm (length table) ≡ false → called (Refused 10 0) table work ≡ solveCall file t w
+      out-of-form e b = no-lengths (ap (_&& lengthInForm t) (eq-eqb t w (sym long ∙ e)) ∙ rw long at b)
 
-      -- both are passed
-      module _ (b : lengthInForm (length table) ≡ true) where
-        form : lengthInForm t ≡ true
-        form = rw (ap length zeros ∙ length-replicate t 0) at b
+  -- both are passed
+  module _ (g : PushdownGame) (read : reading file ≡ done g) (e : length table ≡ w) (b : lengthInForm (length table) ≡ true) where
+    form : lengthInForm t ≡ true
+    form = rw long at b
 
-        pub lent : leaving (solvingGame g (t / entryStride)) (length table) (length work) ≡ solveCall file t w
-        unfolding solveCall solvingWords after
-        lent =
-            rw (ap length zeros ∙ length-replicate t 0, ap length others ∙ length-replicate w 0, read, eq-eqb t w same, form)
+    pub lent : leaving (solvingGame g (t / entryStride)) (length table) w ≡ solveCall file t w
+    unfolding solveCall solvingWords after
+    lent = rw (long, read, eq-eqb t w (sym long ∙ e), form)
 
-        -- zeroed words of a length in form are those of so many entries
-        pub whole-entries : table ≡ replicate (t / entryStride * 3) 0
-        whole-entries =
-            let many : t ≡ t / entryStride * 3 = in-entries t form ∙ omega arith in
-            zeros ∙ ap (λ (k : ℕ). replicate k 0) many
+    -- zeroed words of a length in form are those of so many entries
+    pub whole-entries : table ≡ replicate (t / entryStride * 3) 0
+    whole-entries =
+        let many : t ≡ t / entryStride * 3 = in-entries t form ∙ omega arith in
+        zeros ∙ ap (λ (k : ℕ). replicate k 0) many
 
 -- a length in form is that of at most 2,048 entries
 pub short : (n : ℕ) → lengthInForm n ≡ true → n ≤ 6144

@@ -25,13 +25,13 @@ use Rattle.rounds.specs.InsertLaws.{getD-in}
 use Rattle.rounds.specs.RoundLaws.{AllRanged, roundTable, round-ranged}
 use Rattle.rounds.specs.ScanLaws.{rule-at}
 use Rattle.table.specs.Pairwise.{Ascending}
-use Rattle.saturation.specs.Expand.{expand}
-use Rattle.saturation.specs.Pool.{Head, Layout}
-use Rattle.saturation.specs.PoolLaws.{next-row}
-use Rattle.saturation.specs.Finding.{Fresh}
+use Rattle.unions.specs.Expand.{expand}
+use Rattle.unions.specs.Pool.{Head, Layout}
+use Rattle.unions.specs.PoolLaws.{next-row}
+use Rattle.unions.specs.Finding.{Fresh}
 use Rattle.saturation.specs.Marks.{Dead}
-use Rattle.saturation.specs.ElementsOf.{ElementsOf, HeldTargets}
-use Rattle.saturation.specs.Ending.{RuleFits}
+use Rattle.unions.specs.ElementsOf.{ElementsOf, HeldTargets}
+use Rattle.unions.specs.Ending.{RuleFits}
 use Rattle.saturation.specs.RoundZero.{Started, Bare}
 use Rattle.saturation.specs.Ground.{Areas}
 use Rattle.saturation.specs.Resting.{Resting}
@@ -51,14 +51,14 @@ pub record Bounded (sizes : Sizes) (rules targets : List ℕ) : Type 0 where
   pub targets-fit : sizes .targetcount * 3 ≤ length targets
 
 -- the heads' families have room
-pub heads-in : {heads n : ℕ} {all new added ends grown keys rests hints : List ℕ} → Rooms heads n all new added ends grown keys rests hints → (m : ℕ) → m ≡ length all → heads * n ≤ m
+pub heads-in : {heads n : ℕ} {all new added ends keys rests hints : List ℕ} → Rooms heads n all new added ends keys rests hints → (m : ℕ) → m ≡ length all → heads * n ≤ m
 heads-in {heads} {n} {keys = keys} ro m e = omega (arith, e, ro .area, mul-le-mul-right n (more heads (length keys)))
   where
     more : (x y : ℕ) → x ≤ x + y
     more x y = omega arith
 
-pub rooms-on : {heads n : ℕ} {all new added ends grown keys rests hints all′ new′ : List ℕ} → Rooms heads n all new added ends grown keys rests hints → length all′ ≡ length all
-    → length new′ ≡ length new → Rooms heads n all′ new′ added ends grown keys rests hints
+pub rooms-on : {heads n : ℕ} {all new added ends keys rests hints all′ new′ : List ℕ} → Rooms heads n all new added ends keys rests hints → length all′ ≡ length all
+    → length new′ ≡ length new → Rooms heads n all′ new′ added ends keys rests hints
 rooms-on ro la ln =
     record {
       few = ro .few;
@@ -67,7 +67,6 @@ rooms-on ro la ln =
       alike = ln ∙ ro .alike ∙ sym la;
       giving = ro .giving;
       ended = ro .ended;
-      growing = ro .growing;
       some = ro .some;
       most = ro .most;
       same = ro .same;
@@ -76,10 +75,10 @@ rooms-on ro la ln =
     }
 
 -- areas for families of a words in all, of at most w words each, and for k lines
-pub rooms-of : (w a k h : ℕ) {heads n : ℕ} {all new added ends grown keys rests hints : List ℕ} → heads ≤ 2048 → n ≤ w → w ≤ 16 → heads * n ≤ a → length keys ≡ k
-    → length all ≡ a + k * w → length new ≡ a + k * w → length added ≡ a → length ends ≡ 256 * w → length grown ≡ 256 * w → length rests ≡ k → length hints ≡ h → 10 ≤ k → k ≤ 2048
-    → 0 < h → h ≤ 65536 → Rooms heads n all new added ends grown keys rests hints
-rooms-of w a k h {heads} {n} few words most fit lk la ln ld le lg lr lh some many hinted hinting =
+pub rooms-of : (w a k h : ℕ) {heads n : ℕ} {all new added ends keys rests hints : List ℕ} → heads ≤ 2048 → n ≤ w → w ≤ 16 → heads * n ≤ a → length keys ≡ k
+    → length all ≡ a + k * w → length new ≡ a + k * w → length added ≡ a → length ends ≡ 256 * w → length rests ≡ k → length hints ≡ h → 10 ≤ k → k ≤ 2048
+    → 0 < h → h ≤ 65536 → Rooms heads n all new added ends keys rests hints
+rooms-of w a k h {heads} {n} few words most fit lk la ln ld le lr lh some many hinted hinting =
     record {
       few = few;
       words = omega (arith, words, most);
@@ -87,7 +86,6 @@ rooms-of w a k h {heads} {n} few words most fit lk la ln ld le lg lr lh some man
       alike = ln ∙ sym la;
       giving = omega (arith, ld, fit);
       ended = omega (arith, le, words);
-      growing = lg ∙ sym le;
       some = omega (arith, lk, some);
       most = omega (arith, lk, many);
       same = lr ∙ sym lk;
@@ -189,7 +187,7 @@ module _ {g : PushdownGame} {sizes : Sizes} {rules targets : List ℕ} (given : 
   pub lettered : sizes .letters ≡ g .letters
   lettered = ap (λ (s : Sizes). s .letters) (given .held .sized)
 
-  stated : sizes .states ≡ g .states
+  pub stated : sizes .states ≡ g .states
   stated = ap (λ (s : Sizes). s .states) (given .held .sized)
 
   pub controlled : sizes .control ≡ g .control
@@ -231,10 +229,16 @@ module _ {g : PushdownGame} {sizes : Sizes} {rules targets : List ℕ} (given : 
         let from : getD rules (r * 6) 0 < sizes .states = omega (arith, ap (λ (x : Rule). x .from) bytes, sound .from, given .good .ranged .control, stated) in
         omega (arith, eh, next-row (getD rules (r * 6) 0) (sizes .states) (sizes .letters) from, ap (λ (x : Rule). x .top) bytes, sound .top, lettered)
 
-  pub areas-of : {elements heads n size : ℕ} {states numbers all new added ends grown keys rests hints fresh alive log raising : List ℕ} → heads ≡ sizes .states * sizes .letters
-      → Numbers elements states numbers (sizes .letters) heads → Rooms heads n all new added ends grown keys rests hints → 512 ≤ length raising → length fresh ≡ 64 → length alive ≡ 64
+    pub head-bytes : (getD rules (r * 6) 0 < 32) × (getD rules (r * 6 + 1) 0 < 64)
+    head-bytes = (
+      omega (arith, ap (λ (x : Rule). x .from) bytes, sound .from, given .good .ranged .control, stated, bounded .states-few),
+      omega (arith, ap (λ (x : Rule). x .top) bytes, sound .top, lettered, bounded .letters-few),
+    )
+
+  pub areas-of : {elements heads n size : ℕ} {states numbers all new added ends keys rests hints fresh alive log raising : List ℕ} → heads ≡ sizes .states * sizes .letters
+      → Numbers elements states numbers (sizes .letters) heads → Rooms heads n all new added ends keys rests hints → 512 ≤ length raising → length fresh ≡ 64 → length alive ≡ 64
       → ((c : ℕ) → c < 64 → getD alive c 0 < 1024) → size * 3 ≤ length log → size ≤ 2048
-      → Areas (sizes .letters) heads n (sizes .rulecount) size rules states numbers all new keys rests hints fresh alive ends grown added log raising
+      → Areas (sizes .letters) heads n (sizes .rulecount) size rules states numbers all new keys rests hints fresh alive ends added log raising
   areas-of {heads = heads} {n = n} eh nu ro lr lf la small ll ls =
       record {
         fits =
@@ -256,9 +260,9 @@ module _ {g : PushdownGame} {sizes : Sizes} {rules targets : List ℕ} (given : 
         masks = lr;
         ruled = λ r l. rule-fits r l heads eh;
         headed = λ r l. head-fits r l heads eh;
+        owned = λ r l. head-bytes r l;
         some = bounded .rules-few;
         ended = omega (arith, ro .ended, mul-le-mul-right n (bounded .rules-few));
-        growing = ro .growing;
         giving = ro .giving;
         noting = ll;
         most = ls;
@@ -284,11 +288,11 @@ module _ {g : PushdownGame} {sizes : Sizes} {rules targets : List ℕ} (given : 
   more-rows e = omega (arith, e, mul-le-mul-right (sizes .letters) (bounded .lower))
 
   -- after round 0
-  pub rest-zero : {elements heads n count : ℕ} {states numbers raising all new keys rests ends added log : List ℕ} (fresh alive : List ℕ) → heads ≡ sizes .states * sizes .letters → n ≤ 16
-      → (few : Few g elements n states numbers) → Raising raising → Started (few .el) g n log all new count → Blank ends → Blank added
+  pub rest-zero : {elements heads n count : ℕ} {states numbers raising all new keys rests ends added log news : List ℕ} (fresh alive held : List ℕ) → heads ≡ sizes .states * sizes .letters → n ≤ 16
+      → (few : Few g elements n states numbers) → Raising raising → Started (few .el) g n log all new news count → Blank ends → Blank added
       → Fresh (few .el) g [] (roundZero g) fresh → Dead (few .el) g (roundZero g) alive
-      → Resting (few .el) g n heads [] (roundZero g) 0 (sizes .abelard) (sizes .letters) (sizes .rulecount) rules states numbers raising all new keys rests fresh alive ends added log 0 count
-  rest-zero {n = n} fresh alive eh ln few raises st be ba touched dead =
+      → Resting (few .el) g n heads [] (roundZero g) 0 (sizes .abelard) (sizes .letters) (sizes .rulecount) rules states numbers raising all new keys rests fresh alive ends added log news held 0 count
+  rest-zero {n = n} fresh alive held eh ln few raises st be ba touched dead =
       record {
         ground =
             record {
@@ -329,7 +333,9 @@ module _ {g : PushdownGame} {sizes : Sizes} {rules targets : List ℕ} (given : 
               left = λ k z c low l e f. absurd (omega (arith, l));
             };
         lined = λ k l. absurd (omega (arith, l));
-        ended = λ r m. record { from = λ x l h. clash h (be (r .number * n) x); into = λ x l p. absurd (omega (arith, p .0)) };
-        idle = λ p a lp la x l. ba ((p * g .letters + a) * n) x;
+        ended = λ r m on. record { from = λ x l h. clash h (be (r .number * n) x); into = λ x l p. absurd (omega (arith, p .0)) };
+        idle = λ p a lp la. record { from = λ x l h. clash h (ba ((p * g .letters + a) * n) x); into = λ x l h. inl h };
         logged = st .logged;
+        tidings = st .marked;
+        reading = λ r m some off z h. no-head (r .to) (r .above) z h;
       }

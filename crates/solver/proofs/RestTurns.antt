@@ -16,23 +16,24 @@ use Rattle.table.specs.Table.{Entry, tableWords}
 use Rattle.rounds.specs.Rounds.{roundZero, nextRound, settled}
 use Rattle.rounds.specs.RoundLaws.{roundTable}
 use Rattle.saturation.specs.RuleLinks.{Linked}
+use Rattle.saturation.specs.Signs.{Reads}
 use Rattle.saturation.specs.Ground.{Areas}
 use Rattle.saturation.specs.Resting.{Resting, RoundTaken}
-use Rattle.saturation.specs.Ranks.{Noted, Sized}
+use Rattle.unions.specs.Ranks.{Noted, Sized}
 use Rattle.solver.specs.Leaving.{leaving, called}
 use Rattle.solver.specs.Given.{solvingRounds}
 use Rattle.solver.specs.declared.solving.Solution.the-variants.{Solved as SolvedWith}
 use Rattle.solver.proofs.RoundOrder.{Order, order-zero, order-next, left-solved, left-last, left-full, next-same, length-settled, length-unsettled}
 
 -- the areas rest at round i
-pub record Rests (el : List ℕ) (g : PushdownGame) (m n heads abelard letters rulecount : ℕ) (rules states numbers raising all new keys rests fresh alive ends added log : List ℕ) (lines entries i : ℕ) : Type 0 where
+pub record Rests (el : List ℕ) (g : PushdownGame) (m n heads abelard letters rulecount : ℕ) (rules states numbers raising all new keys rests fresh alive ends added log news held : List ℕ) (lines entries i : ℕ) : Type 0 where
   pub old : List Entry
-  pub resting : Resting el g n heads old (roundTable g i) i abelard letters rulecount rules states numbers raising all new keys rests fresh alive ends added log lines entries
+  pub resting : Resting el g n heads old (roundTable g i) i abelard letters rulecount rules states numbers raising all new keys rests fresh alive ends added log news held lines entries
   pub order : Order g m i
 
-pub rests-start : {el : List ℕ} {g : PushdownGame} {n heads abelard letters rulecount : ℕ} {rules states numbers raising all new keys rests fresh alive ends added log : List ℕ} {lines entries : ℕ} → (m : ℕ)
-    → Resting el g n heads [] (roundZero g) 0 abelard letters rulecount rules states numbers raising all new keys rests fresh alive ends added log lines entries
-    → Rests el g m n heads abelard letters rulecount rules states numbers raising all new keys rests fresh alive ends added log lines entries 0
+pub rests-start : {el : List ℕ} {g : PushdownGame} {n heads abelard letters rulecount : ℕ} {rules states numbers raising all new keys rests fresh alive ends added log news held : List ℕ} {lines entries : ℕ} → (m : ℕ)
+    → Resting el g n heads [] (roundZero g) 0 abelard letters rulecount rules states numbers raising all new keys rests fresh alive ends added log news held lines entries
+    → Rests el g m n heads abelard letters rulecount rules states numbers raising all new keys rests fresh alive ends added log news held lines entries 0
 unfolding roundTable
 rests-start {g = g} m re = record { old = []; resting = re; order = order-zero g m }
 
@@ -40,10 +41,10 @@ rests-start {g = g} m re = record { old = []; resting = re; order = order-zero g
 pub room-is : (m : ℕ) (table : List ℕ) → table ≡ replicate (m * 3) 0 → length table / 3 ≡ m
 room-is m table e = let l = ap length e ∙ length-replicate (m * 3) 0 in omega (arith, l)
 
-module _ {el : List ℕ} {g : PushdownGame} {m n heads abelard letters rulecount : ℕ} {rules states numbers raising all new keys rests fresh alive ends added log : List ℕ} {lines entries i : ℕ}
-    (w : Rests el g m n heads abelard letters rulecount rules states numbers raising all new keys rests fresh alive ends added log lines entries i)
-    {size : ℕ} (fits : entries ≤ size) (sized : size ≡ m) {all′ new′ keys′ rests′ fresh′ alive′ ends′ added′ log′ : List ℕ} {lines′ entries′ : ℕ}
-    (taken : RoundTaken el g n heads (roundTable g i) i (i + 1) size abelard letters rulecount rules states numbers raising all′ new′ keys′ rests′ fresh′ alive′ ends′ added′ log′ lines′ entries′) where
+module _ {el : List ℕ} {g : PushdownGame} {m n heads abelard letters rulecount : ℕ} {rules states numbers raising all new keys rests fresh alive ends added log news held : List ℕ} {lines entries i : ℕ}
+    (w : Rests el g m n heads abelard letters rulecount rules states numbers raising all new keys rests fresh alive ends added log news held lines entries i)
+    {size : ℕ} (fits : entries ≤ size) (sized : size ≡ m) {all′ new′ keys′ rests′ fresh′ alive′ ends′ added′ log′ news′ held′ : List ℕ} {lines′ entries′ : ℕ}
+    (taken : RoundTaken el g n heads (roundTable g i) i (i + 1) size abelard letters rulecount rules states numbers raising all′ new′ keys′ rests′ fresh′ alive′ ends′ added′ log′ news′ held′ lines′ entries′) where
   abbrev es : List Entry
   es = roundTable g i
 
@@ -59,12 +60,12 @@ module _ {el : List ℕ} {g : PushdownGame} {m n heads abelard letters rulecount
   counted : entries ≡ length es
   counted = w .resting .logged .counted
 
-  turn : RoundTaken el g n heads es i (suc i) size abelard letters rulecount rules states numbers raising all′ new′ keys′ rests′ fresh′ alive′ ends′ added′ log′ lines′ entries′
+  turn : RoundTaken el g n heads es i (suc i) size abelard letters rulecount rules states numbers raising all′ new′ keys′ rests′ fresh′ alive′ ends′ added′ log′ news′ held′ lines′ entries′
   turn = rw step at taken
 
   -- nothing was added: the round is settled, and its entries are those that are noted
   module _ (same : entries′ ≡ entries) where
-    rest : Resting el g n heads es next (suc i) abelard letters rulecount rules states numbers raising all′ new′ keys′ rests′ fresh′ alive′ ends′ added′ log′ lines′ entries′
+    rest : Resting el g n heads es next (suc i) abelard letters rulecount rules states numbers raising all′ new′ keys′ rests′ fresh′ alive′ ends′ added′ log′ news′ held′ lines′ entries′
     rest = ⊎-elim (λ k. absurd (omega (arith, k .0, same, fits))) (λ k. k .1) turn
 
     is-settled : settled g es ≡ true
@@ -75,7 +76,7 @@ module _ {el : List ℕ} {g : PushdownGame} {m n heads abelard letters rulecount
 
     pub noted-last : Noted el g n letters heads states all′ log′ entries′ es m
     noted-last =
-        let r = subst (λ (t : List Entry). Resting el g n heads es t (suc i) abelard letters rulecount rules states numbers raising all′ new′ keys′ rests′ fresh′ alive′ ends′ added′ log′ lines′ entries′) is-same rest in
+        let r = subst (λ (t : List Entry). Resting el g n heads es t (suc i) abelard letters rulecount rules states numbers raising all′ new′ keys′ rests′ fresh′ alive′ ends′ added′ log′ news′ held′ lines′ entries′) is-same rest in
         record {
           good = good;
           layout = r .layout;
@@ -110,7 +111,7 @@ module _ {el : List ℕ} {g : PushdownGame} {m n heads abelard letters rulecount
         (⊎-elim (λ k. omega (arith, k .1, sized)) (λ k. absurd (omega (arith, k .0, beyond))) turn))
 
     pub rests-next : i < maxRounds → entries′ ≤ size
-        → Rests el g m n heads abelard letters rulecount rules states numbers raising all′ new′ keys′ rests′ fresh′ alive′ ends′ added′ log′ lines′ entries′ (i + 1)
+        → Rests el g m n heads abelard letters rulecount rules states numbers raising all′ new′ keys′ rests′ fresh′ alive′ ends′ added′ log′ news′ held′ lines′ entries′ (i + 1)
     unfolding roundTable
     rests-next l fit =
         rw step
@@ -124,8 +125,8 @@ module _ {el : List ℕ} {g : PushdownGame} {m n heads abelard letters rulecount
         turn)
 
 -- The loop's turns: the table is as it was, the areas have their lengths, and they rest at round i.
-pub record Turning (sizes : Sizes) (elements heads n first : ℕ) (rules states numbers firsts nexts raising table₀ log₀ all₀ new₀ keys₀ rests₀ hints₀ fresh₀ alive₀ ends₀ grown₀ added₀ : List ℕ)
-    (table log all new keys rests hints fresh alive ends grown added : List ℕ) (size entries lines i : ℕ) : Type 0 where
+pub record Turning (sizes : Sizes) (heads n first : ℕ) (rules states numbers firsts nexts raising readers table₀ log₀ all₀ new₀ keys₀ rests₀ hints₀ fresh₀ alive₀ ends₀ added₀ news₀ : List ℕ)
+    (table log all new keys rests hints fresh alive ends added news gains stirred held : List ℕ) (size entries lines i : ℕ) : Type 0 where
   pub most : i ≤ maxRounds
   pub sized : size ≡ length table₀ / 3
   pub tabled : table ≡ table₀
@@ -134,28 +135,31 @@ pub record Turning (sizes : Sizes) (elements heads n first : ℕ) (rules states 
   pub few : (c : ℕ) → c < 64 → getD alive c 0 < 1024
   pub logs : length log ≡ length log₀
   pub areas : length all ≡ length all₀
-  pub news : length new ≡ length new₀
+  pub newer : length new ≡ length new₀
   pub keyed : length keys ≡ length keys₀
   pub resting : length rests ≡ length rests₀
   pub hinting : length hints ≡ length hints₀
   pub freshes : length fresh ≡ length fresh₀
   pub alives : length alive ≡ length alive₀
   pub ending : length ends ≡ length ends₀
-  pub grows : length grown ≡ length grown₀
   pub adds : length added ≡ length added₀
-  pub gone : (el : List ℕ) (g : PushdownGame) (m : ℕ) → sizes .control ≡ g .control → elements ≡ length el
+  pub tidings : length news ≡ length news₀
+  pub gaining : length gains ≡ 32
+  pub stirring : length stirred ≡ 32
+  pub holding : length held ≡ 4
+  pub gone : (el : List ℕ) (g : PushdownGame) (m : ℕ) → sizes .control ≡ g .control → sizes .states ≡ g .states → Reads rules (sizes .rulecount) readers
       → Linked rules (sizes .rulecount) (sizes .letters) (sizes .control) firsts nexts → table₀ ≡ replicate (m * 3) 0
-      → Resting el g n heads [] (roundZero g) 0 (sizes .abelard) (sizes .letters) (sizes .rulecount) rules states numbers raising all₀ new₀ keys₀ rests₀ fresh₀ alive₀ ends₀ added₀ log₀ 0 first
-      → Rests el g m n heads (sizes .abelard) (sizes .letters) (sizes .rulecount) rules states numbers raising all new keys rests fresh alive ends added log lines entries i
+      → Resting el g n heads [] (roundZero g) 0 (sizes .abelard) (sizes .letters) (sizes .rulecount) rules states numbers raising all₀ new₀ keys₀ rests₀ fresh₀ alive₀ ends₀ added₀ log₀ news₀ (replicate 4 0) 0 first
+      → Rests el g m n heads (sizes .abelard) (sizes .letters) (sizes .rulecount) rules states numbers raising all new keys rests fresh alive ends added log news held lines entries i
 
 -- areas of the same lengths, with small masks, serve as well
-pub areas-still : {letters heads n rulecount size : ℕ} {rules states numbers all new keys rests hints fresh alive ends grown added log raising all′ new′ keys′ rests′ hints′ fresh′ alive′ ends′ grown′ added′ log′ : List ℕ}
-    → Areas letters heads n rulecount size rules states numbers all new keys rests hints fresh alive ends grown added log raising
+pub areas-still : {letters heads n rulecount size : ℕ} {rules states numbers all new keys rests hints fresh alive ends added log raising all′ new′ keys′ rests′ hints′ fresh′ alive′ ends′ added′ log′ : List ℕ}
+    → Areas letters heads n rulecount size rules states numbers all new keys rests hints fresh alive ends added log raising
     → length all′ ≡ length all → length new′ ≡ length new → length keys′ ≡ length keys → length rests′ ≡ length rests → length hints′ ≡ length hints → length fresh′ ≡ length fresh
-    → length alive′ ≡ length alive → ((c : ℕ) → c < 64 → getD alive′ c 0 < 1024) → length ends′ ≡ length ends → length grown′ ≡ length grown → length added′ ≡ length added
+    → length alive′ ≡ length alive → ((c : ℕ) → c < 64 → getD alive′ c 0 < 1024) → length ends′ ≡ length ends → length added′ ≡ length added
     → length log′ ≡ length log
-    → Areas letters heads n rulecount size rules states numbers all′ new′ keys′ rests′ hints′ fresh′ alive′ ends′ grown′ added′ log′ raising
-areas-still {heads = heads} {n = n} {size = size} a la ln lk lr lh lf lv small le lg ld ll =
+    → Areas letters heads n rulecount size rules states numbers all′ new′ keys′ rests′ hints′ fresh′ alive′ ends′ added′ log′ raising
+areas-still {heads = heads} {n = n} {size = size} a la ln lk lr lh lf lv small le ld ll =
     record {
       fits =
           record {
@@ -183,17 +187,17 @@ areas-still {heads = heads} {n = n} {size = size} a la ln lk lr lh lf lv small l
       masks = a .masks;
       ruled = a .ruled;
       headed = a .headed;
+      owned = a .owned;
       some = a .some;
       ended = omega (arith, a .ended, le);
-      growing = lg ∙ a .growing ∙ sym le;
       giving = omega (arith, a .giving, ld);
       noting = omega (arith, a .noting, ll);
       most = a .most;
     }
 
 -- what writing the table needs
-pub sized-at : {letters heads n rulecount size : ℕ} {rules states numbers all new keys rests hints fresh alive ends grown added log raising all′ new′ log′ : List ℕ}
-    → Areas letters heads n rulecount size rules states numbers all new keys rests hints fresh alive ends grown added log raising → (count : ℕ) → count ≤ size
+pub sized-at : {letters heads n rulecount size : ℕ} {rules states numbers all new keys rests hints fresh alive ends added log raising all′ new′ log′ : List ℕ}
+    → Areas letters heads n rulecount size rules states numbers all new keys rests hints fresh alive ends added log raising → (count : ℕ) → count ≤ size
     → length all′ ≡ length all → length new′ ≡ length new → length log′ ≡ length log → Sized letters heads n count states all′ new′ log′
 sized-at {heads = heads} {n = n} {keys = keys} a count l la ln ll =
     let many = mul-le-mul-right n (more heads (length keys)) in

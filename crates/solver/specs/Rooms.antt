@@ -6,7 +6,7 @@ use mathlib.Core.List.{List}
 use lib.ListN.{length, getD}
 use Rattle.game.specs.Game.{PushdownGame}
 use Rattle.family.specs.Family.{holds}
-use Rattle.saturation.specs.ElementsOf.{ElementsOf}
+use Rattle.unions.specs.ElementsOf.{ElementsOf}
 
 -- the elements as the code has them: their states and the numbers of states, and that no state leads out of the heads
 pub record Numbers (elements : ℕ) (states numbers : List ℕ) (letters heads : ℕ) : Type 0 where
@@ -17,14 +17,13 @@ pub record Numbers (elements : ℕ) (states numbers : List ℕ) (letters heads :
   pub rows : (i : ℕ) → i < 16 → getD states i 0 * letters + letters ≤ heads
 
 -- the areas have room for the families of all heads, of as many lines as there are keys, and of 256 rules
-pub record Rooms (heads n : ℕ) (all new added ends grown keys rests hints : List ℕ) : Type 0 where
+pub record Rooms (heads n : ℕ) (all new added ends keys rests hints : List ℕ) : Type 0 where
   pub few : heads ≤ 2048
   pub words : n ≤ 16
   pub area : (heads + length keys) * n ≤ length all
   pub alike : length new ≡ length all
   pub giving : heads * n ≤ length added
   pub ended : 256 * n ≤ length ends
-  pub growing : length grown ≡ length ends
   pub some : 10 ≤ length keys
   pub most : length keys ≤ 2048
   pub same : length rests ≡ length keys

@@ -4,7 +4,7 @@ use crate::saturating::rounds_in;
 use crate::solving::Solution;
 use crate::solving::walk_rounds;
 use game::Sizes;
-use saturation::Numbering;
+use unions::Numbering;
 ghost use mathlib.Core.Path.{_≡_};
 ghost use mathlib.Core.Bool.{true};
 ghost use mathlib.Core.List.{List};
@@ -12,10 +12,13 @@ ghost use Prim.Native.Nat.{ℕ, _*_, _/_, _^_, _<_, _≤_};
 ghost use lib.ListN.{length, getD, replicate};
 ghost use Rattle.game.specs.Game.{PushdownGame};
 ghost use Rattle.rounds.specs.Solving.{solvingGame};
-ghost use Rattle.saturation.specs.ElementsOf.{ElementsOf};
+ghost use Rattle.unions.specs.ElementsOf.{ElementsOf};
 ghost use Rattle.solver.specs.Leaving.{leaving, called};
 ghost use Rattle.solver.specs.Given.{Given};
 ghost use Rattle.solver.specs.Rooms.{Numbers, Few, Narrow};
+
+// How many heads of control states there may be.
+const ROWS: usize = 1536;
 
 // Round 0 and the others, by the way that serves the game.
 pub fn rounds_by(
@@ -124,10 +127,10 @@ fn words_of(elements: usize) -> usize
     1usize << (elements - 6)
 }
 
-// Families of n words, for so many heads, are within limits.
+// Families of n words, for so many heads, are within limits, and so is the number of heads.
 fn does_fit(heads: usize, n: usize, words: usize, area: usize) -> bool
     requires { ⌜ (heads ≤ 16320) × (words ≤ 16) ⌝ }
-    ensures { λ r. ⌜ (r ≡ true → (heads ≤ 2048) × (n ≤ words) × (heads * n ≤ area)) ⌝ }
+    ensures { λ r. ⌜ (r ≡ true → (heads ≤ 2048) × (n ≤ words) × (heads * n ≤ area) × (heads ≤ area)) ⌝ }
 {
     if 2048 < heads {
         return false;
@@ -135,10 +138,13 @@ fn does_fit(heads: usize, n: usize, words: usize, area: usize) -> bool
     if words < n {
         return false;
     }
+    if area < heads {
+        return false;
+    }
     heads * n <= area
 }
 
-// In areas for families of one word, of 256 heads and 1,024 lines.
+// In areas for families of one word, of 256 heads and 640 lines.
 fn few_rounds(
     sizes: Sizes,
     rules: &[u8],
@@ -152,19 +158,19 @@ fn few_rounds(
     work: &mut [u32],
 ) -> Solution
     requires { ⌜ ((g : PushdownGame) × Given g sizes (now rules) (now targets)) × (length (now table) ≡ length (now work)) × (length (now table) ≤ 6144)
-        × (heads ≡ sizes .states * sizes .letters) × Numbers elements (now states) (now numbers) (sizes .letters) heads × (heads ≤ 2048) × (n ≤ 1) × (heads * n ≤ 256) ⌝ }
+        × (heads ≡ sizes .states * sizes .letters) × Numbers elements (now states) (now numbers) (sizes .letters) heads × (heads ≤ 2048) × (n ≤ 1) × (heads * n ≤ 256) × (heads ≤ 256) ⌝ }
     ensures { λ r. ⌜ ((g : PushdownGame) (m : ℕ) → Given g sizes (now (rules .entry)) (now (targets .entry)) → now (table .entry) ≡ replicate (m * 3) 0
         → Few g elements n (now (states .entry)) (now (numbers .entry))
         → called r (now (table .exit)) (now (work .exit)) ≡ leaving (solvingGame g m) (length (now (table .entry))) (length (now (work .entry)))) ⌝ }
 {
-    let mut all = [0u64; 1280];
-    let mut new = [0u64; 1280];
+    let mut all = [0u64; 896];
+    let mut new = [0u64; 896];
     let mut added = [0u64; 256];
     let mut ends = [0u64; 256];
-    let mut grown = [0u64; 256];
-    let mut keys = [0u32; 1024];
-    let mut rests = [0u32; 1024];
+    let mut keys = [0u32; 640];
+    let mut rests = [0u32; 640];
     let mut hints = [0u32; 2048];
+    let mut firsts = [0usize; 256];
     rounds_in(
         sizes,
         rules,
@@ -180,14 +186,14 @@ fn few_rounds(
         &mut new,
         &mut added,
         &mut ends,
-        &mut grown,
         &mut keys,
         &mut rests,
         &mut hints,
+        &mut firsts,
     )
 }
 
-// In areas for families of 1,024 words, and 768 lines of four.
+// In areas for families of 1,024 words, and 640 lines of four.
 fn some_rounds(
     sizes: Sizes,
     rules: &[u8],
@@ -201,19 +207,19 @@ fn some_rounds(
     work: &mut [u32],
 ) -> Solution
     requires { ⌜ ((g : PushdownGame) × Given g sizes (now rules) (now targets)) × (length (now table) ≡ length (now work)) × (length (now table) ≤ 6144)
-        × (heads ≡ sizes .states * sizes .letters) × Numbers elements (now states) (now numbers) (sizes .letters) heads × (heads ≤ 2048) × (n ≤ 4) × (heads * n ≤ 1024) ⌝ }
+        × (heads ≡ sizes .states * sizes .letters) × Numbers elements (now states) (now numbers) (sizes .letters) heads × (heads ≤ 2048) × (n ≤ 4) × (heads * n ≤ 1024) × (heads ≤ 1024) ⌝ }
     ensures { λ r. ⌜ ((g : PushdownGame) (m : ℕ) → Given g sizes (now (rules .entry)) (now (targets .entry)) → now (table .entry) ≡ replicate (m * 3) 0
         → Few g elements n (now (states .entry)) (now (numbers .entry))
         → called r (now (table .exit)) (now (work .exit)) ≡ leaving (solvingGame g m) (length (now (table .entry))) (length (now (work .entry)))) ⌝ }
 {
-    let mut all = [0u64; 4096];
-    let mut new = [0u64; 4096];
+    let mut all = [0u64; 3584];
+    let mut new = [0u64; 3584];
     let mut added = [0u64; 1024];
     let mut ends = [0u64; 1024];
-    let mut grown = [0u64; 1024];
-    let mut keys = [0u32; 768];
-    let mut rests = [0u32; 768];
-    let mut hints = [0u32; 8192];
+    let mut keys = [0u32; 640];
+    let mut rests = [0u32; 640];
+    let mut hints = [0u32; 6144];
+    let mut firsts = [0usize; 1024];
     rounds_in(
         sizes,
         rules,
@@ -229,10 +235,10 @@ fn some_rounds(
         &mut new,
         &mut added,
         &mut ends,
-        &mut grown,
         &mut keys,
         &mut rests,
         &mut hints,
+        &mut firsts,
     )
 }
 
@@ -259,10 +265,10 @@ fn many_rounds(
     let mut new = [0u64; 14336];
     let mut added = [0u64; 10240];
     let mut ends = [0u64; 4096];
-    let mut grown = [0u64; 4096];
     let mut keys = [0u32; 256];
     let mut rests = [0u32; 256];
     let mut hints = [0u32; 8192];
+    let mut firsts = [0usize; ROWS];
     rounds_in(
         sizes,
         rules,
@@ -278,9 +284,9 @@ fn many_rounds(
         &mut new,
         &mut added,
         &mut ends,
-        &mut grown,
         &mut keys,
         &mut rests,
         &mut hints,
+        &mut firsts,
     )
 }

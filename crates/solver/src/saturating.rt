@@ -1,18 +1,18 @@
 // The rounds of a game whose sets have few states, over families of sets that are kept over all rounds.
 use crate::solving::Solution;
 use crate::solving::give_up;
-use family::RAISING;
-use family::fill_raising;
+use family::raising_table;
 use game::Game;
 use game::Sizes;
 use rounds::clear;
 use saturation::Counts;
 use saturation::link;
+use saturation::mark_rules;
 use saturation::note_targets;
 use saturation::set_masks;
 use saturation::take_round;
-use saturation::write_entries;
 use table::EntryWords;
+use unions::write_entries;
 ghost use mathlib.Core.Path.{_≡_};
 ghost use mathlib.Core.List.{List, []};
 ghost use Prim.Native.Nat.{ℕ, _+_, _*_, _-_, _/_, _<_, _≤_};
@@ -23,16 +23,14 @@ ghost use Rattle.table.specs.Table.{Entry, tableWords};
 ghost use Rattle.rounds.specs.Rounds.{roundZero};
 ghost use Rattle.rounds.specs.Solving.{solvingGame};
 ghost use Rattle.saturation.specs.RuleLinks.{Linked, Climbs};
+ghost use Rattle.saturation.specs.Signs.{Reads};
 ghost use Rattle.saturation.specs.Ground.{Areas};
 ghost use Rattle.saturation.specs.Resting.{Resting};
-ghost use Rattle.saturation.specs.Ranks.{Sized, Noted};
+ghost use Rattle.unions.specs.Ranks.{Sized, Noted};
 ghost use Rattle.solver.specs.declared.solving.Solution.the-variants.{Solved as SolvedWith};
 ghost use Rattle.solver.specs.Leaving.{leaving, called};
 ghost use Rattle.solver.specs.Given.{Given, solvingRounds};
 ghost use Rattle.solver.specs.Rooms.{Numbers, Rooms, Blanks, Few};
-
-// How many heads of control states there may be.
-pub const ROWS: usize = 1536;
 
 // Round 0 and the others, in areas in which nothing is.
 pub fn rounds_in(
@@ -50,21 +48,19 @@ pub fn rounds_in(
     new: &mut [u64],
     added: &mut [u64],
     ends: &mut [u64],
-    grown: &mut [u64],
     keys: &mut [u32],
     rests: &mut [u32],
     hints: &mut [u32],
+    firsts: &mut [usize],
 ) -> Solution
     requires { ⌜ ((g : PushdownGame) × Given g sizes (now rules) (now targets)) × (length (now table) ≡ length (now work)) × (length (now table) ≤ 6144)
         × (heads ≡ sizes .states * sizes .letters) × Numbers elements (now states) (now numbers) (sizes .letters) heads
-        × Rooms heads n (now all) (now new) (now added) (now ends) (now grown) (now keys) (now rests) (now hints) ⌝ }
+        × Rooms heads n (now all) (now new) (now added) (now ends) (now keys) (now rests) (now hints) × (sizes .control * sizes .letters ≤ length (now firsts)) ⌝ }
     ensures { λ r. ⌜ ((g : PushdownGame) (m : ℕ) → Given g sizes (now (rules .entry)) (now (targets .entry)) → now (table .entry) ≡ replicate (m * 3) 0
         → Few g elements n (now (states .entry)) (now (numbers .entry)) → Blanks (now (all .entry)) (now (new .entry)) (now (added .entry)) (now (ends .entry))
         → called r (now (table .exit)) (now (work .exit)) ≡ leaving (solvingGame g m) (length (now (table .entry))) (length (now (work .entry)))) ⌝ }
 {
-    let mut raising = [0u64; RAISING];
-    fill_raising(&mut raising);
-    let mut firsts = [0usize; ROWS];
+    let raising = raising_table();
     let mut nexts = [0usize; Game::MAX_RULES];
     let letters = sizes.letters as usize;
     link(
@@ -72,11 +68,12 @@ pub fn rounds_in(
         sizes.rulecount,
         letters,
         sizes.control as usize,
-        &mut firsts,
+        firsts,
         &mut nexts,
     );
     let mut fresh = [0usize; 64];
     let mut alive = [0usize; 64];
+    let mut news = [0u64; 32];
     let size = table.len() / EntryWords::STRIDE;
     let first = note_targets(
         targets,
@@ -89,6 +86,7 @@ pub fn rounds_in(
         new,
         work,
         size,
+        &mut news,
     );
     if size < first {
         return give_up(table, work, 11, 0);
@@ -104,10 +102,11 @@ pub fn rounds_in(
         &mut fresh,
         &mut alive,
     );
+    let mut readers = [0u64; 644];
+    mark_rules(rules, sizes.rulecount, &mut readers);
     rounds_on(
         sizes,
         rules,
-        elements,
         states,
         numbers,
         heads,
@@ -122,12 +121,13 @@ pub fn rounds_in(
         &mut fresh,
         &mut alive,
         ends,
-        grown,
-        &firsts,
+        firsts,
         &nexts,
         &raising,
         added,
         first,
+        &mut news,
+        &readers,
     )
 }
 
@@ -135,7 +135,6 @@ pub fn rounds_in(
 fn rounds_on(
     sizes: Sizes,
     rules: &[u8],
-    elements: usize,
     states: &[u8],
     numbers: &[usize],
     heads: usize,
@@ -150,20 +149,22 @@ fn rounds_on(
     fresh: &mut [usize],
     alive: &mut [usize],
     ends: &mut [u64],
-    grown: &mut [u64],
     firsts: &[usize],
     nexts: &[usize],
     raising: &[u64],
     added: &mut [u64],
     first: usize,
+    news: &mut [u64],
+    readers: &[u64],
 ) -> Solution
-    requires { ⌜ Areas (sizes .letters) heads n (sizes .rulecount) (length (now table) / 3) (now rules) (now states) (now numbers) (now all) (now new) (now keys) (now rests) (now hints) (now fresh) (now alive) (now ends) (now grown) (now added) (now log) (now raising)
-        × (first ≤ length (now table) / 3) × (elements ≤ 10) × (sizes .control ≤ 24) × (sizes .control * sizes .letters ≤ heads)
-        × (sizes .control * sizes .letters ≤ length (now firsts)) × (256 ≤ length (now nexts)) × Climbs (now nexts) (sizes .rulecount) ⌝ }
-    ensures { λ r. ⌜ ((el : List ℕ) (g : PushdownGame) (m : ℕ) → sizes .control ≡ g .control → elements ≡ length el
+    requires { ⌜ Areas (sizes .letters) heads n (sizes .rulecount) (length (now table) / 3) (now rules) (now states) (now numbers) (now all) (now new) (now keys) (now rests) (now hints) (now fresh) (now alive) (now ends) (now added) (now log) (now raising)
+        × (first ≤ length (now table) / 3) × (sizes .control ≤ 24) × (sizes .control * sizes .letters ≤ heads)
+        × (sizes .control * sizes .letters ≤ length (now firsts)) × (256 ≤ length (now nexts)) × Climbs (now nexts) (sizes .rulecount) × (sizes .control ≤ sizes .states) × (sizes .states ≤ 32) × (sizes .states * sizes .letters ≤ heads)
+        × (length (now news) ≡ 32) × (length (now readers) ≡ 644) ⌝ }
+    ensures { λ r. ⌜ ((el : List ℕ) (g : PushdownGame) (m : ℕ) → sizes .control ≡ g .control → sizes .states ≡ g .states → Reads (now (rules .entry)) (sizes .rulecount) (now (readers .entry))
         → Linked (now (rules .entry)) (sizes .rulecount) (sizes .letters) (sizes .control) (now (firsts .entry)) (now (nexts .entry))
         → now (table .entry) ≡ replicate (m * 3) 0
-        → Resting el g n heads [] (roundZero g) 0 (sizes .abelard) (sizes .letters) (sizes .rulecount) (now (rules .entry)) (now (states .entry)) (now (numbers .entry)) (now (raising .entry)) (now (all .entry)) (now (new .entry)) (now (keys .entry)) (now (rests .entry)) (now (fresh .entry)) (now (alive .entry)) (now (ends .entry)) (now (added .entry)) (now (log .entry)) 0 first
+        → Resting el g n heads [] (roundZero g) 0 (sizes .abelard) (sizes .letters) (sizes .rulecount) (now (rules .entry)) (now (states .entry)) (now (numbers .entry)) (now (raising .entry)) (now (all .entry)) (now (new .entry)) (now (keys .entry)) (now (rests .entry)) (now (fresh .entry)) (now (alive .entry)) (now (ends .entry)) (now (added .entry)) (now (log .entry)) (now (news .entry)) (replicate 4 0) 0 first
         → called r (now (table .exit)) (now (log .exit)) ≡ leaving (solvingRounds g m) (length (now (table .entry))) (length (now (log .entry)))) ⌝ }
 {
     let size = table.len() / EntryWords::STRIDE;
@@ -171,12 +172,14 @@ fn rounds_on(
         entries: first,
         lines: 0,
     };
+    let mut gains = [0u64; 32];
+    let mut stirred = [0u64; 32];
+    let mut held = [0u64; 4];
     let mut i = 0u32;
     loop {
         let next = take_round(
             sizes,
             rules,
-            elements,
             states,
             numbers,
             heads,
@@ -189,7 +192,6 @@ fn rounds_on(
             fresh,
             alive,
             ends,
-            grown,
             firsts,
             nexts,
             raising,
@@ -198,6 +200,11 @@ fn rounds_on(
             size,
             i + 1,
             counts,
+            news,
+            &mut gains,
+            &mut stirred,
+            readers,
+            &mut held,
         );
         if next.entries == counts.entries {
             return settle(

@@ -6,9 +6,9 @@ use game::Sizes;
 use rounds::clear;
 use rounds::copy;
 use rounds::insert;
-use saturation::elements_of;
 use table::EntryWords;
 use table::is_length;
+use unions::elements_of;
 use walk::take_wide;
 ghost use mathlib.Core.Path.{_≡_};
 ghost use mathlib.Core.List.{[], map};
@@ -32,26 +32,29 @@ pub enum Solution {
     Refused { question: u8, place: usize },
 }
 
-// Solves the game that a file describes. Both areas are cleared first, so the answer does not depend on what they held.
-// Afterwards the table has the entries in order and the work area is zero; after a refusal both are zero.
+// Solves the game that a file describes. The table is cleared first, and nothing is read of the work area before it is written, so the
+// answer does not depend on what they held. Afterwards the table has the entries in order and the work area is zero; after a refusal both
+// are zero.
 pub fn solve(file: &[u8], table: &mut [u32], work: &mut [u32]) -> Solution
     ensures { λ r. ⌜ called r (now (table .exit)) (now (work .exit))
         ≡ solveCall (now (file .entry)) (length (now (table .entry))) (length (now (work .entry))) ⌝ }
 {
     clear(table);
-    clear(work);
     let reading = Game::read(file);
     let answer = reading.answer;
     let Answer::Done = answer else {
+        clear(work);
         return refusal(answer);
     };
     if table.len() != work.len() {
+        clear(work);
         return Solution::Refused {
             question: 10,
             place: 0,
         };
     }
     if !is_length(table.len()) {
+        clear(work);
         return Solution::Refused {
             question: 10,
             place: 0,

@@ -2,16 +2,16 @@
 use native.Mathlib.Omega.{arith}
 use mathlib.Core.Path.{refl}
 use borrow.Author.Needs.{needs}
-use Rattle.saturation.proofs.Passes.{row-small}
 use lib.Arith.{digits-lt}
 use Rattle.saturation.proofs.Links.{linked-beyond, linked-at}
 use borrow.Author.Needs.{needs}
+use Rattle.unions.specs.PlaceLaws.{row-small}
 use Rattle.saturation.proofs.linking.link_rule.Statement.{statement}
 use Rattle.saturation.proofs.linking.link_rule.Tie as tie
 use Rattle.saturation.proofs.linking.link_rule.Reads as reads
 use Rattle.saturation.proofs.linking.link_rule.Lts as lts
 use Rattle.rounds.proofs.next_rule.Reads as next-rule-reads
-use Rattle.saturation.proofs.bytes.number_of.Reads as number-of-reads
+use Rattle.unions.proofs.number_of.Reads as number-of-reads
 
 -- src/linking.rt:62:19
 mul-p : tie.Need-mul-p

@@ -3,14 +3,14 @@ use Prim.Native.Nat.{_-_}
 use native.Mathlib.Omega.{arith}
 use mathlib.Core.Logic.{⊎-elim}
 use borrow.Author.Needs.{needs}
-use Rattle.saturation.proofs.Passes.{row-small}
 use Rattle.saturation.proofs.Marking.{Marks, not-false, head-small, head-place, marks-none, marks-more, marks-less, marks-all}
+use Rattle.unions.specs.PlaceLaws.{row-small}
 use Rattle.saturation.proofs.masks.mark.Statement.{statement}
 use Rattle.saturation.proofs.masks.mark.Tie as tie
 use Rattle.saturation.proofs.masks.mark.Reads as reads
 use Rattle.saturation.proofs.masks.mark.Lts as lts
 use Rattle.family.proofs.is_empty_at.Reads as is-empty-at-reads
-use Rattle.saturation.proofs.bytes.number_of.Reads as number-of-reads
+use Rattle.unions.proofs.number_of.Reads as number-of-reads
 
 abbrev Inv-loop : tie.InvT-loop
 Inv-loop count states letters heads n words c set₀ k₀ set k =

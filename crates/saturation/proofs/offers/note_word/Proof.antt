@@ -9,8 +9,8 @@ use Rattle.saturation.proofs.offers.note_word.Statement.{statement}
 use Rattle.saturation.proofs.offers.note_word.Tie as tie
 use Rattle.saturation.proofs.offers.note_word.Reads as reads
 use Rattle.saturation.proofs.offers.note_word.Lts as lts
-use Rattle.saturation.proofs.ends.lowest_set.Reads as lowest-set-reads
-use Rattle.saturation.proofs.writing.put_entry.Reads as put-entry-reads
+use Rattle.unions.proofs.lowest_set.Reads as lowest-set-reads
+use Rattle.unions.proofs.put_entry.Reads as put-entry-reads
 
 abbrev Inv-loop : tie.InvT-loop
 Inv-loop log₀ count size word from first rule entries₀ rest₀ log entries rest = Words word from size first rule log₀ count log entries rest

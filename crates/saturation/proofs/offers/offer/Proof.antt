@@ -6,8 +6,8 @@ use borrow.Author.Needs.{needs}
 use native.Mathlib.Omega.{arith}
 use mathlib.Core.Path.{refl, _∙_}
 use mathlib.Core.Logic.{⊎-elim}
-use Rattle.saturation.proofs.Passes.{place-small}
 use Rattle.saturation.proofs.Giving.{Giving, giving-starts, giving-full, giving-on, giving-none, giving-skips, giving-ends}
+use Rattle.unions.specs.PlaceLaws.{place-small}
 use Rattle.saturation.proofs.offers.offer.Statement.{statement}
 use Rattle.saturation.proofs.offers.offer.Tie as tie
 use Rattle.saturation.proofs.offers.offer.Reads as reads

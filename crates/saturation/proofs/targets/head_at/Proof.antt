@@ -1,7 +1,7 @@
 -- The tests on the way say which of the three answers it is. Assumes what the contract requires.
 use native.Mathlib.Omega.{arith}
 use mathlib.Core.Path.{refl}
-use Rattle.saturation.proofs.Passes.{row-small}
+use Rattle.unions.specs.PlaceLaws.{row-small}
 use Rattle.saturation.proofs.targets.head_at.Statement.{statement}
 use Rattle.saturation.proofs.targets.head_at.Tie as tie
 use Rattle.saturation.proofs.targets.head_at.Reads as reads

@@ -60,7 +60,7 @@ slice-aggregate-few-rounds-2 c = field-length 32 (c .before .before .before .bef
 
 -- src/areas.rt:44:9
 few-rounds-requires : tie.Need-few-rounds-requires
-few-rounds-requires c κs = (let na = c .before .before .before .before .before .before .before .before .before .before .before .family-words .ensures (omega (arith, c .before .before .before .before .before .before .if1 .left)) in let fit = c .before .before .before .before .before .does-fit .ensures (c .before .before .before .before .if2 .taken) in (c .before .before .before .before .before .before .before .before .before .before .before .before .before .before .before .before .pre .0, c .before .before .before .before .before .before .before .before .before .before .before .before .before .before .before .before .pre .1, c .before .before .before .before .before .before .before .before .before .before .before .before .before .before .before .before .pre .2, refl, numbers-of na (sym (field-length 16 (c .before .before .before .before .before .before .before .before .before .before .before .before .before .before .before .before .args .numbering .states) (c .before .before .before .before .before .before .before .before .before .before .before .before .before .before .before .before .good .1 .1 .1 .0 .1 .1 .1 .0 .1 .0 .1))) (sym (field-length 32 (c .before .before .before .before .before .before .before .before .before .before .before .before .before .before .before .before .args .numbering .numbers) (c .before .before .before .before .before .before .before .before .before .before .before .before .before .before .before .before .good .1 .1 .1 .0 .1 .1 .1 .1 .0 .1 .0 .1))) (c .before .before .before .before .before .before .before .before .before .before .before .before .before .before .before .before .pre .3) refl, fit .0, fit .1, fit .2))
+few-rounds-requires c κs = (let na = c .before .before .before .before .before .before .before .before .before .before .before .family-words .ensures (omega (arith, c .before .before .before .before .before .before .if1 .left)) in let fit = c .before .before .before .before .before .does-fit .ensures (c .before .before .before .before .if2 .taken) in (c .before .before .before .before .before .before .before .before .before .before .before .before .before .before .before .before .pre .0, c .before .before .before .before .before .before .before .before .before .before .before .before .before .before .before .before .pre .1, c .before .before .before .before .before .before .before .before .before .before .before .before .before .before .before .before .pre .2, refl, numbers-of na (sym (field-length 16 (c .before .before .before .before .before .before .before .before .before .before .before .before .before .before .before .before .args .numbering .states) (c .before .before .before .before .before .before .before .before .before .before .before .before .before .before .before .before .good .1 .1 .1 .0 .1 .1 .1 .0 .1 .0 .1))) (sym (field-length 32 (c .before .before .before .before .before .before .before .before .before .before .before .before .before .before .before .before .args .numbering .numbers) (c .before .before .before .before .before .before .before .before .before .before .before .before .before .before .before .before .good .1 .1 .1 .0 .1 .1 .1 .1 .0 .1 .0 .1))) (c .before .before .before .before .before .before .before .before .before .before .before .before .before .before .before .before .pre .3) refl, fit .0, fit .1, fit .2, fit .3))
 
 -- src/areas.rt:44:9
 same-length-3 : tie.Need-same-length-3
@@ -88,7 +88,7 @@ slice-aggregate-some-rounds-2 c = field-length 32 (c .before .before .before .be
 
 -- src/areas.rt:58:9
 some-rounds-requires : tie.Need-some-rounds-requires
-some-rounds-requires c κs = (let na = c .before .before .before .before .before .before .before .before .before .before .before .before .before .family-words .ensures (omega (arith, c .before .before .before .before .before .before .before .before .if1 .left)) in let fit = c .before .before .before .before .before .does-fit2 .ensures (c .before .before .before .before .if3 .taken) in (c .before .before .before .before .before .before .before .before .before .before .before .before .before .before .before .before .before .before .pre .0, c .before .before .before .before .before .before .before .before .before .before .before .before .before .before .before .before .before .before .pre .1, c .before .before .before .before .before .before .before .before .before .before .before .before .before .before .before .before .before .before .pre .2, refl, numbers-of na (sym (field-length 16 (c .before .before .before .before .before .before .before .before .before .before .before .before .before .before .before .before .before .before .args .numbering .states) (c .before .before .before .before .before .before .before .before .before .before .before .before .before .before .before .before .before .before .good .1 .1 .1 .0 .1 .1 .1 .0 .1 .0 .1))) (sym (field-length 32 (c .before .before .before .before .before .before .before .before .before .before .before .before .before .before .before .before .before .before .args .numbering .numbers) (c .before .before .before .before .before .before .before .before .before .before .before .before .before .before .before .before .before .before .good .1 .1 .1 .0 .1 .1 .1 .1 .0 .1 .0 .1))) (c .before .before .before .before .before .before .before .before .before .before .before .before .before .before .before .before .before .before .pre .3) refl, fit .0, fit .1, fit .2))
+some-rounds-requires c κs = (let na = c .before .before .before .before .before .before .before .before .before .before .before .before .before .family-words .ensures (omega (arith, c .before .before .before .before .before .before .before .before .if1 .left)) in let fit = c .before .before .before .before .before .does-fit2 .ensures (c .before .before .before .before .if3 .taken) in (c .before .before .before .before .before .before .before .before .before .before .before .before .before .before .before .before .before .before .pre .0, c .before .before .before .before .before .before .before .before .before .before .before .before .before .before .before .before .before .before .pre .1, c .before .before .before .before .before .before .before .before .before .before .before .before .before .before .before .before .before .before .pre .2, refl, numbers-of na (sym (field-length 16 (c .before .before .before .before .before .before .before .before .before .before .before .before .before .before .before .before .before .before .args .numbering .states) (c .before .before .before .before .before .before .before .before .before .before .before .before .before .before .before .before .before .before .good .1 .1 .1 .0 .1 .1 .1 .0 .1 .0 .1))) (sym (field-length 32 (c .before .before .before .before .before .before .before .before .before .before .before .before .before .before .before .before .before .before .args .numbering .numbers) (c .before .before .before .before .before .before .before .before .before .before .before .before .before .before .before .before .before .before .good .1 .1 .1 .0 .1 .1 .1 .1 .0 .1 .0 .1))) (c .before .before .before .before .before .before .before .before .before .before .before .before .before .before .before .before .before .before .pre .3) refl, fit .0, fit .1, fit .2, fit .3))
 
 -- src/areas.rt:58:9
 same-length-5 : tie.Need-same-length-5

@@ -1,7 +1,6 @@
--- The areas have room, and nothing is in them. Assumes what the contract requires.
 use native.Mathlib.Omega.{arith}
 use mathlib.Core.Path.{refl}
-use Rattle.solver.proofs.Beginnings.{rooms-of, blanks-zero}
+use Rattle.solver.proofs.Beginnings.{rooms-of, blanks-zero, more-rows}
 use borrow.Author.Needs.{needs}
 use Rattle.solver.proofs.areas.some_rounds.Statement.{statement}
 use Rattle.solver.proofs.areas.some_rounds.Tie as tie
@@ -9,53 +8,53 @@ use Rattle.solver.proofs.areas.some_rounds.Reads as reads
 use Rattle.solver.proofs.areas.some_rounds.Lts as lts
 use Rattle.solver.proofs.saturating.rounds_in.Reads as rounds-in-reads
 
--- src/areas.rt:228:9
+-- src/areas.rt:234:9
 slice-aggregate-rounds-in : tie.Need-slice-aggregate-rounds-in
 slice-aggregate-rounds-in c = search needs
 
--- src/areas.rt:229:9
+-- src/areas.rt:235:9
 slice-aggregate-rounds-in-2 : tie.Need-slice-aggregate-rounds-in-2
 slice-aggregate-rounds-in-2 c = search needs
 
--- src/areas.rt:230:9
+-- src/areas.rt:236:9
 slice-aggregate-rounds-in-3 : tie.Need-slice-aggregate-rounds-in-3
 slice-aggregate-rounds-in-3 c = search needs
 
--- src/areas.rt:231:9
+-- src/areas.rt:237:9
 slice-aggregate-rounds-in-4 : tie.Need-slice-aggregate-rounds-in-4
 slice-aggregate-rounds-in-4 c = search needs
 
--- src/areas.rt:232:9
+-- src/areas.rt:238:9
 slice-aggregate-rounds-in-5 : tie.Need-slice-aggregate-rounds-in-5
 slice-aggregate-rounds-in-5 c = search needs
 
--- src/areas.rt:233:9
+-- src/areas.rt:239:9
 slice-aggregate-rounds-in-6 : tie.Need-slice-aggregate-rounds-in-6
 slice-aggregate-rounds-in-6 c = search needs
 
--- src/areas.rt:234:9
+-- src/areas.rt:240:9
 slice-aggregate-rounds-in-7 : tie.Need-slice-aggregate-rounds-in-7
 slice-aggregate-rounds-in-7 c = search needs
 
--- src/areas.rt:235:9
+-- src/areas.rt:241:9
 slice-aggregate-rounds-in-8 : tie.Need-slice-aggregate-rounds-in-8
 slice-aggregate-rounds-in-8 c = search needs
 
--- src/areas.rt:217:5
+-- src/areas.rt:223:5
 rounds-in-requires : tie.Need-rounds-in-requires
-rounds-in-requires c κs = (c .before .before .before .before .before .before .before .before .before .before .before .before .before .before .before .before .pre .0, c .before .before .before .before .before .before .before .before .before .before .before .before .before .before .before .before .pre .1, c .before .before .before .before .before .before .before .before .before .before .before .before .before .before .before .before .pre .2, c .before .before .before .before .before .before .before .before .before .before .before .before .before .before .before .before .pre .3, c .before .before .before .before .before .before .before .before .before .before .before .before .before .before .before .before .pre .4, rooms-of 4 1024 768 8192 (c .before .before .before .before .before .before .before .before .before .before .before .before .before .before .before .before .pre .5) (c .before .before .before .before .before .before .before .before .before .before .before .before .before .before .before .before .pre .6) (omega arith) (c .before .before .before .before .before .before .before .before .before .before .before .before .before .before .before .before .pre .7) refl refl refl refl refl refl refl refl (omega arith) (omega arith) (omega arith) (omega arith))
+rounds-in-requires c κs = (c .before .before .before .before .before .before .before .before .before .before .before .before .before .before .before .before .pre .0, c .before .before .before .before .before .before .before .before .before .before .before .before .before .before .before .before .pre .1, c .before .before .before .before .before .before .before .before .before .before .before .before .before .before .before .before .pre .2, c .before .before .before .before .before .before .before .before .before .before .before .before .before .before .before .before .pre .3, c .before .before .before .before .before .before .before .before .before .before .before .before .before .before .before .before .pre .4, rooms-of 4 1024 640 6144 (c .before .before .before .before .before .before .before .before .before .before .before .before .before .before .before .before .pre .5) (c .before .before .before .before .before .before .before .before .before .before .before .before .before .before .before .before .pre .6) (omega arith) (c .before .before .before .before .before .before .before .before .before .before .before .before .before .before .before .before .pre .7) refl refl refl refl refl refl refl (omega arith) (omega arith) (omega arith) (omega arith), omega (arith, more-rows (c .before .before .before .before .before .before .before .before .before .before .before .before .before .before .before .before .pre .0 .1) (c .before .before .before .before .before .before .before .before .before .before .before .before .before .before .before .before .pre .3), c .before .before .before .before .before .before .before .before .before .before .before .before .before .before .before .before .pre .8))
 
--- src/areas.rt:191:1
+-- src/areas.rt:197:1
 same-length : tie.Need-same-length
 same-length c = search needs
 
--- src/areas.rt:191:1
+-- src/areas.rt:197:1
 same-length-2 : tie.Need-same-length-2
 same-length-2 c = search needs
 
--- src/areas.rt:191:1
+-- src/areas.rt:197:1
 returns : tie.Need-returns
-returns c = λ g m given zeros few. c .before .before .before .before .before .before .before .before .before .before .before .before .rounds-in .ensures g m given zeros few (blanks-zero 4096 1024 1024)
+returns c = λ g m given zeros few. c .before .before .before .before .before .before .before .before .before .before .before .before .rounds-in .ensures g m given zeros few (blanks-zero 3584 1024 1024)
 
 pub some-rounds-spec : {M : Type 1} → statement M
 some-rounds-spec =

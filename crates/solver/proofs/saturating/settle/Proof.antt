@@ -7,7 +7,7 @@ use Rattle.solver.proofs.saturating.settle.Tie as tie
 use Rattle.solver.proofs.saturating.settle.Reads as reads
 use Rattle.solver.proofs.saturating.settle.Lts as lts
 use Rattle.rounds.proofs.clear.Reads as clear-reads
-use Rattle.saturation.proofs.write_entries.Reads as write-entries-reads
+use Rattle.unions.proofs.write_entries.Reads as write-entries-reads
 
 -- src/saturating.rt:249:5
 write-entries-requires : tie.Need-write-entries-requires

@@ -6,7 +6,7 @@ use Rattle.solver.proofs.solving.all_rounds.Statement.{statement}
 use Rattle.solver.proofs.solving.all_rounds.Tie as tie
 use Rattle.solver.proofs.solving.all_rounds.Reads as reads
 use Rattle.solver.proofs.solving.all_rounds.Lts as lts
-use Rattle.saturation.proofs.elements_of.Reads as elements-of-reads
+use Rattle.unions.proofs.elements_of.Reads as elements-of-reads
 use Rattle.solver.proofs.areas.rounds_by.Reads as rounds-by-reads
 
 -- src/solving.rt:89:9

@@ -1,0 +1,12 @@
+pub mod Passes
+pub mod Making
+pub mod Renewing
+pub mod Summing
+pub mod Choosing
+pub mod Writes
+pub mod Expanding
+pub mod Ranking
+pub mod Members
+pub mod Gathering
+pub mod Naming
+pub mod Pairing

@@ -1,0 +1,16 @@
+pub mod PlaceLaws
+pub mod Expand
+pub mod UnionSteps
+pub mod ExpandLaws
+pub mod Filled
+pub mod Pool
+pub mod JoinLaws
+pub mod PoolLaws
+pub mod Finding
+pub mod Ending
+pub mod Log
+pub mod EndingLaws
+pub mod Ranks
+pub mod RankLaws
+pub mod EntryRanks
+pub mod ElementsOf
