@@ -1,3 +1,5 @@
+-- One word is written at once (`cleared-one`), and so are four (`cleared-four`). In the loop the words before place i are empty (`Walked`).
+-- What falls is the number of words left. Assumes what the contract requires.
 use Prim.Native.Nat.{_-_}
 use native.Mathlib.Omega.{arith}
 use mathlib.Core.Path.{refl}

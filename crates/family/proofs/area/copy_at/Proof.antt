@@ -1,3 +1,5 @@
+-- One word is written at once (`copied-one`), and so are four (`copied-four`). In the loop the words before place i are those copied
+-- (`Walked`). What falls is the number of words left. Assumes what the contract requires.
 use Prim.Native.Nat.{_-_}
 use native.Mathlib.Omega.{arith}
 use mathlib.Core.Path.{refl}

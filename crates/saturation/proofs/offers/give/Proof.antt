@@ -1,3 +1,4 @@
+-- As many entries as before are the same ones (`gave-same`); else the head is marked (`gave-marked`). Assumes what the contract requires.
 use Rattle.saturation.proofs.Gaining.{gave-same, gave-marked}
 use mathlib.Core.Path.{refl}
 use borrow.Author.Needs.{needs}

@@ -1,3 +1,4 @@
+-- By the two tests. Assumes nothing.
 use mathlib.Core.Path.{_∙_, sym}
 use borrow.Author.Tests.{eqb-true}
 use Rattle.game.specs.ListLaws.{clash}

@@ -1,3 +1,5 @@
+-- What a rule of Abelard's has more is put into its ends (`abelards-keeps`); what one of Éloise's has more is offered to its head
+-- (`eloises-gives`), for one letter as it stands in `new` (`direct`). Assumes what the contract requires.
 use Prim.Native.Nat.{_+_, _*_}
 use native.Mathlib.Omega.{arith}
 use native.Mathlib.Nat.{le-refl}

@@ -1,3 +1,4 @@
+-- The words before w are passed (`Wording`). What falls is the number of words left. Assumes what the contract requires.
 use Prim.Native.Nat.{_-_}
 use native.Mathlib.Omega.{arith}
 use mathlib.Core.Path.{_∙_, sym}

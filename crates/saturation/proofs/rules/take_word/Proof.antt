@@ -1,3 +1,5 @@
+-- The rules of the bits passed are taken, those between them passed over (`Going`); where the round does not fit, that is said at once.
+-- What falls is the word of the bits left. Assumes what the contract requires.
 use native.Mathlib.Omega.{arith}
 use mathlib.Core.Path.{_∙_, sym}
 use Rattle.game.specs.LowestLaws.{cleared-falls}

@@ -1,3 +1,4 @@
+-- A head that is not marked afterwards was not marked here, so that every set was there. Assumes what the contract requires.
 use Rattle.saturation.proofs.Marking.{not-true}
 use mathlib.Core.Path.{refl}
 use borrow.Author.Needs.{needs}

@@ -1,3 +1,5 @@
+-- The areas are long enough (`areas-of`); round 0 is noted, and if it fits the areas rest after it (`rest-zero`). Assumes what the contract
+-- requires.
 use borrow.Author.Needs.{needs}
 use native.Mathlib.Omega.{arith}
 use mathlib.Core.Path.{refl, sym, ap, _∙_}

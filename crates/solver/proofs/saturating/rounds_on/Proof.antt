@@ -1,3 +1,5 @@
+-- The loop's turns are the rounds: the areas rest at round i, no earlier one is settled, and solving goes on from it (`Turning`). The
+-- measure is how many rounds may still be taken. Assumes what the contract requires and what `take_round` promises.
 use Prim.Native.Nat.{_-_}
 use native.Mathlib.Omega.{arith}
 use mathlib.Core.Path.{refl, sym, ap, _∙_}

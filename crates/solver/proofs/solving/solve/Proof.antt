@@ -1,3 +1,4 @@
+-- A refusal leaves both areas zero (`no-file`, `unequal`, `out-of-form`); else the answer is that of the rounds (`lent`). Assumes nothing.
 use borrow.Author.Needs.{needs}
 use mathlib.Core.Path.{refl, sym, _∙_}
 use Prim.Native.Nat.{_/_}

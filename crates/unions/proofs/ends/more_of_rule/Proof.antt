@@ -1,3 +1,4 @@
+-- What the ends over the rule's word have more, by the bytes of the rule (`rule-more`). Assumes what the contract requires.
 use native.Mathlib.Omega.{arith}
 use mathlib.Core.Path.{refl, sym, ap, _∙_}
 use Rattle.unions.proofs.Writes.{rule-more, to-is, count-is}
