@@ -32,8 +32,8 @@ use Rattle.unions.specs.UnionSteps.{unions-more}
 use Rattle.unions.specs.Pool.{Is, Head, Layout, HeadsHold}
 use Rattle.unions.specs.PoolLaws.{head-within, union-within}
 use Rattle.unions.specs.Ending.{Listed, RuleEnds}
-use Rattle.saturation.specs.Taking.{Taking}
-use Rattle.saturation.specs.Offers.{Adding, Offered, Taken, Spared, Gave}
+use Rattle.noting.specs.Taking.{Taking}
+use Rattle.noting.specs.Offers.{Adding, Offered, Taken, Spared, Gave}
 use Rattle.saturation.specs.Steps.{Step}
 use Rattle.saturation.specs.RuleLinks.{Linked, Chain, ended, linked}
 use Rattle.saturation.specs.HeadSteps.{EndsOf, AllOf, AbelardAt, Ready}

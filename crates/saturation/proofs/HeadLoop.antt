@@ -13,19 +13,17 @@ use borrow.Author.Tests.{eqb-true, eqb-false, ltb-true, ltb-false}
 use Rattle.game.specs.Sets.{has}
 use Rattle.game.specs.SetLaws.{none-has}
 use Rattle.game.specs.LowestLaws.{LowestOf, Cleared, cleared}
-use Rattle.game.specs.ListLaws.{_∈_, test, clash}
+use Rattle.game.specs.ListLaws.{_∈_, test, clash, not-false}
 use Rattle.game.specs.Game.{PushdownGame, rulesOf}
 use Rattle.game.specs.Win.{isAbelard}
 use Rattle.table.specs.Table.{Entry}
 use Rattle.rounds.specs.Rounds.{unions, ruleEnds}
 use Rattle.unions.specs.Pool.{Head}
-use Rattle.saturation.specs.Taking.{Taking}
-use Rattle.saturation.specs.Offers.{Adding, Spared}
+use Rattle.noting.specs.Taking.{Taking, heads-old}
+use Rattle.noting.specs.Offers.{Adding, Spared}
 use Rattle.saturation.specs.Steps.{Stepped, Step, AbelardsTo}
 use Rattle.saturation.specs.HeadSteps.{AbelardAt, AbelardsIn, Ready}
-use Rattle.saturation.proofs.Giving.{heads-old}
-use Rattle.saturation.proofs.Marking.{not-false}
-use Rattle.saturation.proofs.HeadNumbers.{same-row}
+use Rattle.noting.specs.HeadNumbers.{same-row}
 use Rattle.saturation.proofs.AbelardHeads.{still-there}
 
 -- whose state p is, from the test of the code

@@ -15,29 +15,7 @@ use Rattle.game.specs.Stored.{ruleAt}
 use Rattle.game.specs.ListLaws.{test, both, conj}
 use Rattle.rounds.specs.Scans.{NextRule}
 use Rattle.saturation.specs.RuleLinks.{Linked, LinkedFrom, Climbs}
-use Rattle.saturation.proofs.HeadNumbers.{same-head}
-
--- every number before place i is set
-pub record Filling (old : List ℕ) (number : ℕ) (list : List ℕ) (i : ℕ) : Type 0 where
-  pub long : length list ≡ length old
-  pub done : (k : ℕ) → k < i → getD list k 0 ≡ number
-
-pub filling-on : (old : List ℕ) (number : ℕ) (list : List ℕ) (i : ℕ) → Filling old number list i → i < length list
-    → length (set list i number) ≡ length list → Filling old number (set list i number) (i + 1)
-filling-on old number list i f l long =
-    record {
-      long = long ∙ f .long;
-      done =
-          λ k m.
-          ⊎-elim
-          (λ (t : eqb k i ≡ true).
-          let e = eqb-true k i t in
-          ap (λ (j : ℕ). getD (set list i number) j 0) e ∙ getD-set-same list i number 0 l)
-          (λ (t : eqb k i ≡ false).
-          let n = eqb-false k i t in
-          getD-set-other list i k number 0 n ∙ f .done k (omega (arith, n)))
-          (test (eqb k i));
-    }
+use Rattle.noting.specs.HeadNumbers.{same-head}
 
 module _ (rules : List ℕ) (count letters control : ℕ) where
   -- no rule is linked yet

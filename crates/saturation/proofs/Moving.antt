@@ -29,7 +29,7 @@ use Rattle.unions.specs.Finding.{Fresh}
 use Rattle.unions.specs.Ending.{RuleEnds, RuleBefore}
 use Rattle.saturation.specs.Ground.{Owned}
 use Rattle.saturation.specs.RuleLaws.{ruleOf, rule-same}
-use Rattle.saturation.specs.Signs.{NoNews, Unmoved, Held, Left}
+use Rattle.noting.specs.Signs.{NoNews, Unmoved, Held, Left}
 
 -- an older table has transitions only after the first round
 later : (old : List Entry) (i q a z : ℕ) → (i ≡ 0 → old ≡ []) → Head old q a z → 0 < i

@@ -22,18 +22,17 @@ use Rattle.unions.specs.PoolLaws.{Passing, next-row}
 use Rattle.unions.specs.JoinLaws.{is-as, is-kept}
 use Rattle.unions.specs.Finding.{Renewing, Fresh}
 use Rattle.unions.specs.Log.{Log}
-use Rattle.saturation.specs.Taking.{whole, head-entry, entry-head}
-use Rattle.saturation.specs.Signs.{NoNews, NoGains, Unmoved, Held, Reads, Left}
-use Rattle.saturation.specs.Offers.{Adding}
-use Rattle.saturation.specs.Closing.{Ready}
-use Rattle.saturation.specs.Marks.{Dead}
+use Rattle.noting.specs.Taking.{whole, heads-old, head-entry, entry-head}
+use Rattle.noting.specs.Signs.{NoNews, NoGains, Unmoved, Held, Reads, Left}
+use Rattle.noting.specs.Offers.{Adding}
+use Rattle.noting.specs.Closing.{Ready}
+use Rattle.noting.specs.Marks.{Dead}
 use Rattle.saturation.specs.Steps.{EndsHold, Stepped, AbelardsTo}
 use Rattle.saturation.specs.RuleLinks.{Linked}
 use Rattle.saturation.specs.HeadSteps.{Ready as Heads}
 use Rattle.saturation.specs.Ground.{Ground, RulesTo}
 use Rattle.saturation.specs.Resting.{Resting}
 use Rattle.saturation.specs.RuleLaws.{ruleOf, rule-same}
-use Rattle.saturation.proofs.Giving.{heads-old}
 use Rattle.saturation.proofs.RuleTurns.{bytes, sound, to-of, above-of}
 use Rattle.saturation.proofs.Moving.{moving}
 

@@ -20,7 +20,7 @@ use Rattle.table.specs.Table.{Entry}
 use Rattle.family.specs.Family.{holds}
 use Rattle.unions.specs.Finding.{Renewable}
 use Rattle.unions.specs.Ending.{RuleEnds, RuleBefore}
-use Rattle.saturation.specs.Signs.{Unmoved}
+use Rattle.noting.specs.Signs.{Unmoved}
 use Rattle.saturation.specs.Ground.{Ground, Areas, RulesTo, RulesTaken}
 use Rattle.saturation.specs.RuleLaws.{rule-same}
 use Rattle.unions.specs.PoolLaws.{fits-on}

@@ -26,13 +26,12 @@ use Rattle.unions.specs.Pool.{Is, Grew, Head, Pool, Layout, HeadsHold}
 use Rattle.unions.specs.PoolLaws.{apart, next-row}
 use Rattle.unions.specs.JoinLaws.{is-as, is-kept, grew-as}
 use Rattle.unions.specs.Ending.{RuleEnds, RuleBefore}
-use Rattle.saturation.specs.Taking.{Taking}
-use Rattle.saturation.specs.Offers.{Adding, Offered, Spared, Gave, Taken}
+use Rattle.noting.specs.Taking.{Taking, heads-old}
+use Rattle.noting.specs.Offers.{Adding, Offered, Spared, Gave, Taken}
 use Rattle.saturation.specs.Steps.{Calm, Stepped, EloisesTo}
 use Rattle.saturation.specs.Ground.{Ground, Areas, RulesTo, RulesTaken}
 use Rattle.saturation.specs.RuleLaws.{ruleOf, rule-number, rule-there, rule-same, rule-of-head, ends-within}
 use Rattle.unions.specs.EndingLaws.{ends-kept}
-use Rattle.saturation.proofs.Giving.{heads-old}
 
 -- a head's family has its place in both areas
 module _ {letters heads n rulecount size : ℕ} {rules states numbers all new keys rests hints fresh alive ends added log raising : List ℕ}

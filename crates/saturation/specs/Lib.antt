@@ -1,14 +1,6 @@
-pub mod Signs
-pub mod Reading
-pub mod Taking
-pub mod Offers
-pub mod Closing
-pub mod ClosingRows
 pub mod Steps
 pub mod Ground
 pub mod RuleLaws
-pub mod Marks
-pub mod RoundZero
 pub mod Resting
 pub mod RuleLinks
 pub mod HeadSteps

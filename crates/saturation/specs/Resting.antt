@@ -14,8 +14,8 @@ use Rattle.unions.specs.Expand.{AllWithin}
 use Rattle.unions.specs.Pool.{Is, Layout, Lines}
 use Rattle.unions.specs.PoolLaws.{Passing}
 use Rattle.unions.specs.Ending.{RuleBefore}
-use Rattle.saturation.specs.Signs.{NoNews, Held}
-use Rattle.saturation.specs.Offers.{Adding}
+use Rattle.noting.specs.Signs.{NoNews, Held}
+use Rattle.noting.specs.Offers.{Adding}
 use Rattle.unions.specs.Log.{Log}
 use Rattle.saturation.specs.Steps.{Stepped, AbelardsTo}
 use Rattle.saturation.specs.Ground.{Ground, RulesTo}

@@ -14,9 +14,9 @@ use Rattle.rounds.specs.Rounds.{unions, ruleEnds, nextRound}
 use Rattle.rounds.specs.Candidates.{Gives}
 use Rattle.unions.specs.Pool.{Is, Head}
 use Rattle.unions.specs.Ending.{RuleEnds, RuleBefore}
-use Rattle.saturation.specs.Signs.{NoGains}
-use Rattle.saturation.specs.Taking.{Taking}
-use Rattle.saturation.specs.Offers.{Adding}
+use Rattle.noting.specs.Signs.{NoGains}
+use Rattle.noting.specs.Taking.{Taking}
+use Rattle.noting.specs.Offers.{Adding}
 
 -- the ends of the runs of each of Abelard's rules, at its number
 abbrev pub EndsHold : List ℕ → PushdownGame → ℕ → List Entry → List ℕ → Type 0

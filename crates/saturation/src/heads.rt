@@ -1,9 +1,9 @@
 // Abelard's part of a round: each of his heads that is marked, since one of its rules may have more ends, is offered the unions of one end
 // of each rule.
-use crate::offers::give;
 use family::copy_at;
 use family::unite_into;
 use game::has_state;
+use noting::give;
 use unions::lowest_set;
 ghost use mathlib.Core.Path.{_≡_};
 ghost use mathlib.Core.Bool.{true};
@@ -15,9 +15,9 @@ ghost use Rattle.game.specs.Win.{isAbelard};
 ghost use Rattle.table.specs.Table.{Entry};
 ghost use Rattle.family.specs.Masks.{Raising};
 ghost use Rattle.unions.specs.Expand.{Elements};
-ghost use Rattle.saturation.specs.Signs.{NoGains};
-ghost use Rattle.saturation.specs.Taking.{Taking};
-ghost use Rattle.saturation.specs.Offers.{Adding, Spared};
+ghost use Rattle.noting.specs.Signs.{NoGains};
+ghost use Rattle.noting.specs.Taking.{Taking};
+ghost use Rattle.noting.specs.Offers.{Adding, Spared};
 ghost use Rattle.saturation.specs.Steps.{Step, AbelardsTo};
 ghost use Rattle.saturation.specs.RuleLinks.{Climbs, Chain};
 ghost use Rattle.saturation.specs.HeadSteps.{EndsOf, AllOf, AbelardAt, AbelardsIn, Ready};

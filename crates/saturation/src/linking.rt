@@ -1,5 +1,6 @@
 // The rules of each head one after another: the first rule of each head, by the head's number, and for each rule the next of its head.
 use game::Game;
+use noting::fill;
 use rounds::next_rule;
 use unions::number_of;
 ghost use mathlib.Core.Path.{_≡_};
@@ -27,18 +28,6 @@ pub fn link(
     while 0 < r {
         r -= 1;
         link_rule(rules, count, letters, control, r, firsts, nexts);
-    }
-}
-
-// Every number of a list set to one.
-pub fn fill(list: &mut [usize], number: usize)
-    ensures { λ _. ⌜ ((i : ℕ) → i < length (now (list .entry)) → getD (now (list .exit)) i 0 ≡ number) ⌝ }
-    ensures { λ _. ⌜ length (now (list .exit)) ≡ length (now (list .entry)) ⌝ }
-{
-    let mut i = 0;
-    while i < list.len() {
-        list[i] = number;
-        i += 1;
     }
 }
 

@@ -1,12 +1,12 @@
 // A round, from what the last one added: the lines are brought up, the rules and Abelard's heads give what is new, as far as they read
 // something new, and the heads take it.
-use crate::closing::close_heads;
 use crate::heads::take_heads;
-use crate::readers::find_active;
 use crate::rules::Counts;
 use crate::rules::take_rules;
 use family::clear_at;
 use game::Sizes;
+use noting::close_heads;
+use noting::find_active;
 use unions::renew_lines;
 ghost use mathlib.Core.Path.{_≡_};
 ghost use mathlib.Core.Logic.{_⊎_};
@@ -18,7 +18,7 @@ ghost use Rattle.table.specs.Table.{Entry};
 ghost use Rattle.rounds.specs.Rounds.{nextRound};
 ghost use Rattle.saturation.specs.RuleLinks.{Linked, Climbs};
 ghost use Rattle.unions.specs.Pool.{HeadsGrew};
-ghost use Rattle.saturation.specs.Signs.{Held, Reads};
+ghost use Rattle.noting.specs.Signs.{Held, Reads};
 ghost use Rattle.saturation.specs.Ground.{Areas};
 ghost use Rattle.saturation.specs.Resting.{Resting, RoundNoted, RoundTaken};
 

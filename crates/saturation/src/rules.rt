@@ -1,9 +1,9 @@
 // The rules of a round, the lowest first: what the ends of each one's runs have more. What Éloise's have more is offered to the head at
 // once, so that a set that no lower rule gave is given by this one first; what Abelard's have more is put into their ends.
-use crate::offers::give;
-use crate::signs::keep_more;
 use game::Game;
 use game::has_state;
+use noting::give;
+use noting::keep_more;
 use unions::byte_of;
 use unions::lowest_set;
 use unions::more_of_rule;
@@ -17,7 +17,7 @@ ghost use Rattle.game.specs.Game.{Rule, PushdownGame};
 ghost use Rattle.game.specs.ListLaws.{_∈_};
 ghost use Rattle.table.specs.Table.{Entry, firstWord};
 ghost use Rattle.unions.specs.Ending.{RuleEnds, RuleBefore};
-ghost use Rattle.saturation.specs.Signs.{Unmoved};
+ghost use Rattle.noting.specs.Signs.{Unmoved};
 ghost use Rattle.saturation.specs.Ground.{Ground, Areas, RulesTo, RulesTaken};
 
 // How many entries are noted, and how many lines there are.

@@ -29,10 +29,10 @@ use Rattle.unions.specs.Expand.{expand}
 use Rattle.unions.specs.Pool.{Head, Layout}
 use Rattle.unions.specs.PoolLaws.{next-row}
 use Rattle.unions.specs.Finding.{Fresh}
-use Rattle.saturation.specs.Marks.{Dead}
+use Rattle.noting.specs.Marks.{Dead}
 use Rattle.unions.specs.ElementsOf.{ElementsOf, HeldTargets}
 use Rattle.unions.specs.Ending.{RuleFits}
-use Rattle.saturation.specs.RoundZero.{Started, Bare}
+use Rattle.noting.specs.RoundZero.{Started, Bare}
 use Rattle.saturation.specs.Ground.{Areas}
 use Rattle.saturation.specs.Resting.{Resting}
 use Rattle.solver.specs.Given.{Given}

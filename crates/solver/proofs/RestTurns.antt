@@ -16,7 +16,7 @@ use Rattle.table.specs.Table.{Entry, tableWords}
 use Rattle.rounds.specs.Rounds.{roundZero, nextRound, settled}
 use Rattle.rounds.specs.RoundLaws.{roundTable}
 use Rattle.saturation.specs.RuleLinks.{Linked}
-use Rattle.saturation.specs.Signs.{Reads}
+use Rattle.noting.specs.Signs.{Reads}
 use Rattle.saturation.specs.Ground.{Areas}
 use Rattle.saturation.specs.Resting.{Resting, RoundTaken}
 use Rattle.unions.specs.Ranks.{Noted, Sized}

@@ -12,7 +12,7 @@ use lib.Dec.{eqb, ltb}
 use borrow.Author.Tests.{ltb-true, ltb-false}
 use Rattle.game.specs.Sets.{has, union}
 use Rattle.game.specs.SetLaws.{none-has, single-has, has-single}
-use Rattle.game.specs.ListLaws.{test, clash, both, conj, either, left-or, right-or, below-suc}
+use Rattle.game.specs.ListLaws.{test, clash, not-true, both, conj, either, left-or, right-or, below-suc}
 use Rattle.game.specs.Game.{PushdownGame}
 use Rattle.table.specs.Table.{Entry}
 use Rattle.family.specs.Family.{holds}
@@ -25,9 +25,6 @@ use Rattle.unions.specs.Ending.{Sum, OfWord, Choice, Picked, Sets}
 use Rattle.unions.specs.PlaceLaws.{holds-word}
 use Rattle.unions.proofs.Summing.{sum-none}
 
-off : {b : Bool} → not b ≡ true → b ≡ false
-off {b} h = ⊎-elim (λ (t : b ≡ true). clash h (ap not t)) (λ (t : b ≡ false). t) (test b)
-
 module _ (old new u m y s still alive : ℕ) (subset : (has u s ≡ true) ↔ (union y still ≡ still)) (living : (has m s ≡ true) ↔ (union y alive ≡ alive)) where
   abbrev word : ℕ
   word = bitAnd (bitOr (bitXor old (bitAnd old u)) new) m
@@ -39,7 +36,7 @@ module _ (old new u m y s still alive : ℕ) (subset : (has u s ≡ true) ↔ (u
         ⊎-elim
             (λ k.
             let q = both (has old s) (not (has u s)) (sym (has-less old u s) ∙ k) in
-            inr (q .0, λ e. clash (subset .1 e) (off (q .1))))
+            inr (q .0, λ e. clash (subset .1 e) (not-true _ (q .1))))
             inl
             (either (has (bitXor old (bitAnd old u)) s) (has new s) (sym (has-or (bitXor old (bitAnd old u)) new s) ∙ p .0)),
       )
@@ -67,7 +64,7 @@ module _ (old new u m y s still alive : ℕ) (subset : (has u s ≡ true) ↔ (u
     λ h.
         let p = both (has word s) (not (has 1 s)) (sym (has-less word 1 s) ∙ h) in
         let c = chosen (p .0) in
-        record { some = positive (off (p .1)); lives = c .0; moves = c .1 },
+        record { some = positive (not-true _ (p .1)); lives = c .0; moves = c .1 },
     λ c. has-less word 1 s ∙ conj (choose (c .lives) (c .moves)) (ap not (no-one (c .some))),
   )
     where
@@ -78,7 +75,7 @@ module _ (old new u m y s still alive : ℕ) (subset : (has u s ≡ true) ↔ (u
       no-one l = ⊎-elim (λ (t : has 1 s ≡ true). absurd (let z = has-single 0 s t in omega (arith, z))) (λ (t : has 1 s ≡ false). t) (test (has 1 s))
 
 pub no-first : (w : ℕ) → has (bitXor w (bitAnd w 1)) 0 ≡ false
-no-first w = ⊎-elim (λ (t : has (bitXor w (bitAnd w 1)) 0 ≡ true). clash (single-has 0) (off (both (has w 0) (not (has 1 0)) (sym (has-less w 1 0) ∙ t) .1))) (λ t. t) (test (has (bitXor w (bitAnd w 1)) 0))
+no-first w = ⊎-elim (λ (t : has (bitXor w (bitAnd w 1)) 0 ≡ true). clash (single-has 0) (not-true _ (both (has w 0) (not (has 1 0)) (sym (has-less w 1 0) ∙ t) .1))) (λ t. t) (test (has (bitXor w (bitAnd w 1)) 0))
 
 -- a head's family is the same wherever the families of a table are kept
 pub head-same : (el : List ℕ) (g : PushdownGame) (n heads : ℕ) (states : List ℕ) (es : List Entry) (all keys rests all′ keys′ rests′ : List ℕ) (count count′ head : ℕ)

@@ -9,7 +9,7 @@ use Rattle.saturation.proofs.heads.take_head.Tie as tie
 use Rattle.saturation.proofs.heads.take_head.Reads as reads
 use Rattle.saturation.proofs.heads.take_head.Lts as lts
 use Rattle.saturation.proofs.heads.unite_rules.Reads as unite-rules-reads
-use Rattle.saturation.proofs.offers.give.Reads as give-reads
+use Rattle.noting.proofs.give.Reads as give-reads
 
 -- src/heads.rt:191:17
 mul-first : tie.Need-mul-first

@@ -3,7 +3,7 @@
 use Prim.Native.Nat.{_-_}
 use native.Mathlib.Omega.{arith}
 use mathlib.Core.Path.{refl, _∙_}
-use Rattle.saturation.proofs.HeadNumbers.{row-in, rows-in}
+use Rattle.noting.specs.HeadNumbers.{row-in, rows-in}
 use Rattle.saturation.proofs.HeadLoop.{Going, going-starts, going-full, going-on, going-ends}
 use Rattle.saturation.proofs.heads.take_heads.Statement.{statement}
 use Rattle.saturation.proofs.heads.take_heads.Tie as tie

@@ -3,7 +3,7 @@
 use native.Mathlib.Omega.{arith}
 use mathlib.Core.Path.{refl, _∙_}
 use Rattle.game.specs.LowestLaws.{cleared-falls}
-use Rattle.saturation.proofs.HeadNumbers.{few-heads, place-in-row, head-few}
+use Rattle.noting.specs.HeadNumbers.{few-heads, place-in-row, head-few}
 use Rattle.saturation.proofs.HeadLoop.{his, row-other, Rowing, rowing-starts, rowing-past, rowing-full, rowing-on, rowing-ends}
 use Rattle.saturation.proofs.heads.take_row.Statement.{statement}
 use Rattle.saturation.proofs.heads.take_row.Tie as tie

@@ -10,7 +10,7 @@ use Rattle.saturation.proofs.linking.link.Statement.{statement}
 use Rattle.saturation.proofs.linking.link.Tie as tie
 use Rattle.saturation.proofs.linking.link.Reads as reads
 use Rattle.saturation.proofs.linking.link.Lts as lts
-use Rattle.saturation.proofs.linking.fill.Reads as fill-reads
+use Rattle.noting.proofs.fill.Reads as fill-reads
 use Rattle.saturation.proofs.linking.link_rule.Reads as link-rule-reads
 
 abbrev Inv-loop : tie.InvT-loop

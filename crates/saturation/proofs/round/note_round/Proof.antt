@@ -13,7 +13,7 @@ use Rattle.saturation.proofs.round.note_round.Lts as lts
 use Rattle.family.proofs.clear_at.Reads as clear-at-reads
 use Rattle.saturation.proofs.heads.take_heads.Reads as take-heads-reads
 use Rattle.unions.proofs.renew_lines.Reads as renew-lines-reads
-use Rattle.saturation.proofs.readers.find_active.Reads as find-active-reads
+use Rattle.noting.proofs.find_active.Reads as find-active-reads
 use Rattle.saturation.proofs.rules.take_rules.Reads as take-rules-reads
 
 -- src/round.rt:185:19

@@ -10,7 +10,7 @@ use Rattle.saturation.proofs.round.take_round.Statement.{statement}
 use Rattle.saturation.proofs.round.take_round.Tie as tie
 use Rattle.saturation.proofs.round.take_round.Reads as reads
 use Rattle.saturation.proofs.round.take_round.Lts as lts
-use Rattle.saturation.proofs.closing.close_heads.Reads as close-heads-reads
+use Rattle.noting.proofs.close_heads.Reads as close-heads-reads
 use Rattle.saturation.proofs.round.note_round.Reads as note-round-reads
 
 -- src/round.rt:80:9

@@ -16,9 +16,9 @@ use Rattle.saturation.proofs.rules.take_rule.Reads as reads
 use Rattle.saturation.proofs.rules.take_rule.Lts as lts
 use Rattle.game.proofs.has_state.Reads as has-state-reads
 use Rattle.unions.proofs.byte_of.Reads as byte-of-reads
-use Rattle.saturation.proofs.signs.keep_more.Reads as keep-more-reads
+use Rattle.noting.proofs.keep_more.Reads as keep-more-reads
 use Rattle.unions.proofs.more_of_rule.Reads as more-of-rule-reads
-use Rattle.saturation.proofs.offers.give.Reads as give-reads
+use Rattle.noting.proofs.give.Reads as give-reads
 use Rattle.saturation.proofs.rules.first_of.Reads as first-of-reads
 use Rattle.saturation.proofs.rules.is_direct.Reads as is-direct-reads
 

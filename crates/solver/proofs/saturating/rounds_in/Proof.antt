@@ -17,9 +17,9 @@ use Rattle.solver.proofs.saturating.rounds_in.Reads as reads
 use Rattle.solver.proofs.saturating.rounds_in.Lts as lts
 use Rattle.family.proofs.raising_table.Reads as raising-table-reads
 use Rattle.saturation.proofs.link.Reads as link-reads
-use Rattle.saturation.proofs.set_masks.Reads as set-masks-reads
-use Rattle.saturation.proofs.mark_rules.Reads as mark-rules-reads
-use Rattle.saturation.proofs.note_targets.Reads as note-targets-reads
+use Rattle.noting.proofs.set_masks.Reads as set-masks-reads
+use Rattle.noting.proofs.mark_rules.Reads as mark-rules-reads
+use Rattle.noting.proofs.note_targets.Reads as note-targets-reads
 use Rattle.solver.proofs.saturating.rounds_on.Reads as rounds-on-reads
 use Rattle.solver.proofs.solving.give_up.Reads as give-up-reads
 

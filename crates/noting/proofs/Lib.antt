@@ -1,0 +1,9 @@
+pub mod Offering
+pub mod Giving
+pub mod Gaining
+pub mod Signing
+pub mod ClosingHeads
+pub mod ClosingMasks
+pub mod Marking
+pub mod Starting
+pub mod ActiveRules

@@ -1,0 +1,9 @@
+pub mod HeadNumbers
+pub mod Signs
+pub mod Reading
+pub mod Taking
+pub mod Offers
+pub mod Closing
+pub mod ClosingRows
+pub mod Marks
+pub mod RoundZero
