@@ -252,18 +252,31 @@ none-missing n d all to any i m end e x l h =
     (ap (λ (w : ℕ). has w (x % 64)) e ∙ none-has (x % 64)))
     (test (has (getD all (to + x / 64) 0) (x % 64)))
 
--- four words, written one after another
+-- two words and four, written one after another
+walk-two : (old : List ℕ) (to n : ℕ) (new : ℕ → ℕ) → 2 ≤ n → to + n ≤ length old → (a b : ℕ) → a ≡ new 0 → b ≡ new 1
+    → Walked old to n new (set (set old to a) (to + 1) b) 2
+walk-two old to n new two room a b ea eb =
+    let first : Walked old to n new (set old to a) 1 =
+    subst (λ (k : ℕ). Walked old to n new (set old k a) 1) (add-zero to) (walk-on old to n new old 0 (walk-starts old to n new) room (omega arith) a ea) in
+    walk-on old to n new (set old to a) 1 first room (omega arith) b eb
+
 walk-four : (old : List ℕ) (to n : ℕ) (new : ℕ → ℕ) → n ≡ 4 → to + n ≤ length old → (a b c d : ℕ) → a ≡ new 0 → b ≡ new 1 → c ≡ new 2 → d ≡ new 3
     → Walked old to n new (set (set (set (set old to a) (to + 1) b) (to + 2) c) (to + 3) d) 4
 walk-four old to n new four room a b c d ea eb ec ed =
-    let first : Walked old to n new (set old to a) 1 =
-    subst (λ (k : ℕ). Walked old to n new (set old k a) 1) (add-zero to) (walk-on old to n new old 0 (walk-starts old to n new) room (omega arith) a ea) in
-    let second = walk-on old to n new (set old to a) 1 first room (omega arith) b eb in
+    let second = walk-two old to n new (omega (arith, four)) room a b ea eb in
     let third = walk-on old to n new (set (set old to a) (to + 1) b) 2 second room (omega arith) c ec in
     walk-on old to n new (set (set (set old to a) (to + 1) b) (to + 2) c) 3 third room (omega arith) d ed
 
+pub cleared-two : (old : List ℕ) (at n : ℕ) → n ≡ 2 → at + n ≤ length old → Cleared old at n (set (set old at 0) (at + 1) 0)
+cleared-two old at n two room = cleared-all old at n _ 2 (walk-two old at n none (omega (arith, two)) room 0 0 refl refl) (omega arith)
+
 pub cleared-four : (old : List ℕ) (at n : ℕ) → n ≡ 4 → at + n ≤ length old → Cleared old at n (set (set (set (set old at 0) (at + 1) 0) (at + 2) 0) (at + 3) 0)
 cleared-four old at n four room = cleared-all old at n _ 4 (walk-four old at n none four room 0 0 0 0 refl refl refl refl) (omega arith)
+
+pub copied-two : (old : List ℕ) (to n : ℕ) (others : List ℕ) (at : ℕ) → n ≡ 2 → to + n ≤ length old
+    → Copied old to n others at (set (set old to (getD others at 0)) (to + 1) (getD others (at + 1) 0))
+copied-two old to n others at two room =
+    copied-all old to n others at _ 2 (walk-two old to n (copied others at) (omega (arith, two)) room _ _ (rw (add-zero at) refl) refl) (omega arith)
 
 pub copied-four : (old : List ℕ) (to n : ℕ) (others : List ℕ) (at : ℕ) → n ≡ 4 → to + n ≤ length old
     → Copied old to n others at

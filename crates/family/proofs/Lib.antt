@@ -8,3 +8,4 @@ pub mod MaskTable
 pub mod Places
 pub mod Subsets
 pub mod Unions
+pub mod Within

@@ -37,9 +37,6 @@ bit-is j s l = omega arith
 pub of-word : (words : List ℕ) (at j s : ℕ) → s < 64 → holds words at (j * 64 + s) ≡ has (getD words (at + j) 0) s
 of-word words at j s l = at-word words at (j * 64 + s) j (word-is j s l) ∙ ap (has (getD words (at + j) 0)) (bit-is j s l)
 
-pub of-front : (words : List ℕ) (j s : ℕ) → s < 64 → holds words 0 (j * 64 + s) ≡ has (getD words j 0) s
-of-front words j s l = at-front words (j * 64 + s) j (word-is j s l) ∙ ap (has (getD words j 0)) (bit-is j s l)
-
 pub whole : (x j : ℕ) → x / 64 ≡ j → x ≡ j * 64 + x % 64
 whole x j e = omega (arith, e)
 

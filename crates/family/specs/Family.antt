@@ -27,24 +27,24 @@ abbrev pub UnionIn : ℕ → ℕ → ℕ → List ℕ → ℕ → ℕ → Type 0
 UnionIn n word i others at x =
     (s z : ℕ) × (s < 64) × (z / 64 < n) × (has word s ≡ true) × (holds others at z ≡ true) × (x ≡ union (i * 64 + s) z)
 
--- these unions put into the family at the front of an area
+-- these unions, as far as a family of n words can say them, put into the family at the front of an area
 pub record Row (n word i : ℕ) (others : List ℕ) (at : ℕ) (old out : List ℕ) : Type 0 where
   pub from : (x : ℕ) → holds out 0 x ≡ true → (holds old 0 x ≡ true) ⊎ UnionIn n word i others at x
   pub kept : (x : ℕ) → holds old 0 x ≡ true → holds out 0 x ≡ true
-  pub into : (x : ℕ) → UnionIn n word i others at x → holds out 0 x ≡ true
+  pub into : (x : ℕ) → x / 64 < n → UnionIn n word i others at x → holds out 0 x ≡ true
 
--- The unions of a set of one family of n words with a set of another put into the family at the front of an area.
+-- The unions of a set of one family of n words with a set of another, as far as such a family can say them, put into the family at the
+-- front of an area.
 pub record UnitesInto (n : ℕ) (a : List ℕ) (at : ℕ) (b : List ℕ) (bt : ℕ) (old out : List ℕ) : Type 0 where
   pub from : (x : ℕ) → holds out 0 x ≡ true
       → (holds old 0 x ≡ true) ⊎ ((y z : ℕ) × (y / 64 < n) × (z / 64 < n) × (holds a at y ≡ true) × (holds b bt z ≡ true) × (x ≡ union y z))
   pub kept : (x : ℕ) → holds old 0 x ≡ true → holds out 0 x ≡ true
-  pub into : (y z : ℕ) → y / 64 < n → z / 64 < n → holds a at y ≡ true → holds b bt z ≡ true → holds out 0 (union y z) ≡ true
+  pub into : (y z : ℕ) → y / 64 < n → z / 64 < n → union y z / 64 < n → holds a at y ≡ true → holds b bt z ≡ true → holds out 0 (union y z) ≡ true
 
--- word j of a family of n words joined to word i | j of another, at the front of an area
-pub record Gathered (n i : ℕ) (a : List ℕ) (at : ℕ) (old words : List ℕ) : Type 0 where
-  pub from : (x : ℕ) → holds words 0 x ≡ true
-      → (holds old 0 x ≡ true) ⊎ ((j : ℕ) × (j < n) × (x / 64 ≡ union i j) × (has (getD a (at + j) 0) (x % 64) ≡ true))
-  pub into : (j s : ℕ) → j < n → s < 64 → has (getD a (at + j) 0) s ≡ true → holds words 0 (union i j * 64 + s) ≡ true
+-- the words of a family at the places j with i | j = p, joined
+pub record Gathered (i p : ℕ) (a : List ℕ) (at r : ℕ) : Type 0 where
+  pub from : (s : ℕ) → has r s ≡ true → (j : ℕ) × (j ≤ p) × (union i j ≡ p) × (has (getD a (at + j) 0) s ≡ true)
+  pub into : (j s : ℕ) → union i j ≡ p → has (getD a (at + j) 0) s ≡ true → has r s ≡ true
 
 -- the words from `at` on, n of them, aside, an area is as it was
 abbrev pub Elsewhere : ℕ → ℕ → List ℕ → List ℕ → Type 0

@@ -1,5 +1,5 @@
-// Families at places of an area. Most families have one word: what is done often has a way without a loop for them. Families of four words
-// are emptied and copied without one, too.
+// Families at places of an area. Most families have one word: what is done often has a way without a loop for them. Families of two and of
+// four words are emptied and copied without one, too.
 ghost use mathlib.Core.Path.{_≡_};
 ghost use mathlib.Core.Bool.{true, false};
 ghost use Prim.Native.Nat.{ℕ, _+_, _/_, _<_, _≤_};
@@ -52,6 +52,11 @@ pub fn clear_at(words: &mut [u64], at: usize, n: usize)
         words[at] = 0;
         return;
     }
+    if n == 2 {
+        words[at] = 0;
+        words[at + 1] = 0;
+        return;
+    }
     if n == 4 {
         words[at] = 0;
         words[at + 1] = 0;
@@ -74,6 +79,11 @@ pub fn copy_at(words: &mut [u64], to: usize, others: &[u64], at: usize, n: usize
 {
     if n == 1 {
         words[to] = others[at];
+        return;
+    }
+    if n == 2 {
+        words[to] = others[at];
+        words[to + 1] = others[at + 1];
         return;
     }
     if n == 4 {

@@ -25,73 +25,46 @@ pub fn unite_into(
         out[0] = out[0] | unite_by(raising, a[at], b[bt]);
         return;
     }
-    let places = places_of(n);
     let mut i = 0;
     while i < n {
         let word = b[bt + i];
         if word != 0 {
-            unite_with(out, a, at, word, i, raising, n, places);
+            unite_with(out, a, at, word, i, raising, n);
         }
         i += 1;
     }
 }
 
-// The same with the sets of word i of the second family: the words of the first that give one word of unions are joined before. None of
-// them stands below place i.
-fn unite_with(
-    out: &mut [u64],
-    a: &[u64],
-    at: usize,
-    word: u64,
-    i: usize,
-    raising: &[u64],
-    n: usize,
-    places: usize,
-)
-    requires { ⌜ (16 ≤ length (now out)) × (at + n ≤ length (now a)) × (i < 16) × (512 ≤ length (now raising)) × (n ≤ 16) × (places ≤ 16)
-        × ((j : ℕ) → j < n → union i j < places) ⌝ }
+// The same with the sets of word i of the second family. Their unions are in the words whose places contain i; the words of the first
+// family that give one of these are joined before.
+fn unite_with(out: &mut [u64], a: &[u64], at: usize, word: u64, i: usize, raising: &[u64], n: usize)
+    requires { ⌜ (16 ≤ length (now out)) × (at + n ≤ length (now a)) × (i < n) × (512 ≤ length (now raising)) × (n ≤ 16) ⌝ }
     ensures { λ _. ⌜ (Raising (now (raising .entry)) → Row n word i (now (a .entry)) at (now (out .entry)) (now (out .exit))) ⌝ }
     ensures { λ _. ⌜ length (now (out .exit)) ≡ length (now (out .entry)) ⌝ }
 {
-    let mut gathered = [0u64; 16];
-    gather(&mut gathered, a, at, i, n);
     let mut p = i;
-    while p < places {
-        if gathered[p] != 0 {
-            out[p] = out[p] | unite_by(raising, gathered[p], word);
+    while p < n {
+        let many = gathered(a, at, i, p);
+        if many != 0 {
+            out[p] = out[p] | unite_by(raising, many, word);
         }
-        p += 1;
+        p = (p + 1) | i;
     }
 }
 
-// Word j of the family at a place joined to word i | j.
-fn gather(words: &mut [u64; 16], a: &[u64], at: usize, i: usize, n: usize)
-    requires { ⌜ (length (now words) ≡ 16) × (at + n ≤ length (now a)) × (i < 16) × (n ≤ 16) ⌝ }
-    ensures { λ _. ⌜ Gathered n i (now (a .entry)) at (now (words .entry)) (now (words .exit)) ⌝ }
+// The words of the family at a place that give word p if united with word i, joined: those at the places j with i | j = p, which lack of p
+// what is within i.
+fn gathered(a: &[u64], at: usize, i: usize, p: usize) -> u64
+    requires { ⌜ (p < 16) × (union i p ≡ p) × (at + p < length (now a)) ⌝ }
+    ensures { λ r. ⌜ Gathered i p (now (a .entry)) at r ⌝ }
 {
-    let mut j = 0;
-    while j < n {
-        let p = i | j;
-        words[p] = words[p] | a[at + j];
-        j += 1;
+    let mut sum = a[at + p - i];
+    let mut s = i;
+    while s != 0 {
+        s = (s - 1) & i;
+        sum = sum | a[at + p - s];
     }
-}
-
-// How many words the unions of two families of n words have: the next power of two.
-fn places_of(n: usize) -> usize
-    requires { ⌜ n ≤ 16 ⌝ }
-    ensures { λ r. ⌜ (r ≤ 16) × ((i j : ℕ) → i < n → j < n → union i j < r) ⌝ }
-{
-    if n <= 2 {
-        return 2;
-    }
-    if n <= 4 {
-        return 4;
-    }
-    if n <= 8 {
-        return 8;
-    }
-    16
+    sum
 }
 
 // The unions of a set of `many` with a set of `few`, both of one word; it goes through the sets of `few`, the lowest first.

@@ -107,7 +107,7 @@ module _ (el : List ℕ) (states : ℕ) (ok : Elements el states) (n : ℕ) (roo
             let y = families .within r (t .0) here (t .2) in
             let h = families .is r here .into (y .0) (y .1) (subst (λ (v : ℕ). v ∈ f r) (y .2) (t .2)) in
             let small = union-below (length el) (q .0) (y .0) (q .2) (y .1) in
-            let at = u .into (q .0) (y .0) (room (q .0) (q .2)) (room (y .0) (y .1)) (q .3) h in (
+            let at = u .into (q .0) (y .0) (room (q .0) (q .2)) (room (y .0) (y .1)) (room (union (q .0) (y .0)) small) (q .3) h in (
               union (q .0) (y .0),
               t .1,
               small,

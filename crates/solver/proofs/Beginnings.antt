@@ -178,9 +178,6 @@ module _ {g : PushdownGame} {sizes : Sizes} {rules targets : List ℕ} (given : 
         targets-fit = omega (arith, b, length-targetWords (g .targets));
       })
 
-  abbrev size-of : Sizes → ℕ
-  size-of s = s .rulecount
-
   counted : sizes .rulecount ≡ length (g .rules)
   counted = ap (λ (s : Sizes). s .rulecount) (given .held .sized)
 

@@ -1,6 +1,6 @@
 -- The unions of two families are those of the second with the first.
 use Prim.Native.Nat.{ℕ, _/_, _<_}
-use mathlib.Core.Path.{ap, _∙_}
+use mathlib.Core.Path.{ap, subst, _∙_}
 use mathlib.Core.Logic.{inl, inr, ⊎-elim}
 use mathlib.Core.List.{List}
 use lib.Bits.{or-comm}
@@ -11,5 +11,5 @@ united-back n a at b bt old out u =
     record {
       from = λ x h. ⊎-elim inl (λ f. inr (f .1, f .0, f .3, f .2, f .5, f .4, f .6 ∙ or-comm (f .0) (f .1))) (u .from x h);
       kept = u .kept;
-      into = λ y z l m h k. ap (holds out 0) (or-comm y z) ∙ u .into z y m l k h;
+      into = λ y z l m o h k. ap (holds out 0) (or-comm y z) ∙ u .into z y m l (subst (λ (w : ℕ). w / 64 < n) (or-comm y z) o) k h;
     }

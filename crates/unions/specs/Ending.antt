@@ -99,9 +99,3 @@ pub record RuleFits (rules : List ℕ) (letters heads r : ℕ) : Type 0 where
   pub above : getD rules (r * 6 + 4) 0 < letters
   pub below : getD rules (r * 6 + 5) 0 < letters
   pub state : getD rules (r * 6 + 2) 0 < 32
-
--- nothing is new for the runs over a word: it has letters, its first head has no new transition, and no element has one on a second letter
-pub record Quiet (written head n : ℕ) (new : List ℕ) (fresh : ℕ) : Type 0 where
-  pub some : 0 < written
-  pub none : (x : ℕ) → x / 64 < n → holds new (head * n) x ≡ false
-  pub rest : (written ≡ 1) ⊎ (fresh ≡ 0)

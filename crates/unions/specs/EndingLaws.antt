@@ -55,32 +55,6 @@ inside-or k y a l =
 pub inside-has : (y a i : ℕ) → union y a ≡ a → has y i ≡ true → has a i ≡ true
 inside-has y a i e h = ap (λ (w : ℕ). has w i) (sym e) ∙ left-union y a i h
 
--- a family taken into another: what that has afterwards, and what it has more
-pub taken-is : (el : List ℕ) (n : ℕ) (d all all′ new new′ : List ℕ) (to : ℕ) (P Q : ℕ → Type 0) → ((x : ℕ) → x < 2 ^ length el → x / 64 < n) → ((z : ℕ) → Q z → P z)
-    → Is el n all to Q → Grew el n d 0 P Q → TakenIn n d to all all′ new new′ → Is el n all′ to P × Grew el n new′ to P Q
-taken-is el n d all all′ new new′ to P Q room up is grew t = (
-  record {
-    from =
-        λ x l h.
-        ⊎-elim (λ k. let r = is .from x l k in (r .0, up (expand el x) (r .1))) (λ k. grew .from x l k)
-        (either (holds all to x) (holds d 0 x) (sym (t .here x l) ∙ h));
-    into =
-        λ x l p.
-        t .here x (room x l)
-        ∙ ⊎-elim (λ k. left-or (holds d 0 x) (is .into x l k)) (λ k. right-or (holds all to x) k) (grew .into x l p);
-  },
-  record {
-    from = λ x l h. grew .from x l (both (holds d 0 x) (not (holds all to x)) (sym (t .fresh x l) ∙ h) .0);
-    into =
-        λ x l p.
-        ⊎-elim inl
-        (λ k.
-        ⊎-elim (λ m. inl (is .from x (room x l) m .1)) (λ m. inr (t .fresh x (room x l) ∙ conj k (ap not m)))
-        (test (holds all to x)))
-        (grew .into x l p);
-  },
-)
-
 -- a copy of what grew
 pub copied-grew : (el : List ℕ) (n : ℕ) (old more new : List ℕ) (at : ℕ) (P Q : ℕ → Type 0) → ((x : ℕ) → x < 2 ^ length el → x / 64 < n) → Grew el n new at P Q
     → Copied old 0 n new at more → Grew el n more 0 P Q

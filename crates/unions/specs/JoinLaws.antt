@@ -85,7 +85,7 @@ module _ (el : List ℕ) (states : ℕ) (ok : Elements el states) (n : ℕ) (roo
               λ x l j.
               let q = join-parts x l j in
               subst (λ (w : ℕ). holds out 0 w ≡ true) (sym (q .6))
-              (u .into (q .0) (q .1) (room (q .0) (q .2)) (room (q .1) (q .3)) (ia .into (q .0) (q .2) (q .4)) (ib .into (q .1) (q .3) (q .5)));
+              (u .into (q .0) (q .1) (room (q .0) (q .2)) (room (q .1) (q .3)) (subst (λ (w : ℕ). w / 64 < n) (q .6) (room x l)) (ia .into (q .0) (q .2) (q .4)) (ib .into (q .1) (q .3) (q .5)));
         }
 
     -- what they have more: a union of something new with anything
@@ -112,10 +112,10 @@ module _ (el : List ℕ) (states : ℕ) (ok : Elements el states) (n : ℕ) (roo
             ⊎-elim
             (λ a. inl (olds (expand el x) (expand el y, expand el z, a, b, ap (expand el) e ∙ expand-union el states ok y z)))
             (λ k.
-            inr (subst (λ (w : ℕ). holds d₂ 0 w ≡ true) (sym (e ∙ or-comm y z)) (u₂ .into z y (room z (q .3)) (room y (q .2)) (ib .into z (q .3) (q .5)) k)))
+            inr (subst (λ (w : ℕ). holds d₂ 0 w ≡ true) (sym (e ∙ or-comm y z)) (u₂ .into z y (room z (q .3)) (room y (q .2)) (subst (λ (w : ℕ). w / 64 < n) (e ∙ or-comm y z) (room x l)) (ib .into z (q .3) (q .5)) k)))
             (ga .into y (q .2) (q .4)))
             (λ k.
-            inr (subst (λ (w : ℕ). holds d₂ 0 w ≡ true) (sym e) (u₂ .kept (union y z) (u₁ .into y z (room y (q .2)) (room z (q .3)) (ia .into y (q .2) (q .4)) k))))
+            inr (subst (λ (w : ℕ). holds d₂ 0 w ≡ true) (sym e) (u₂ .kept (union y z) (u₁ .into y z (room y (q .2)) (room z (q .3)) (subst (λ (w : ℕ). w / 64 < n) e (room x l)) (ia .into y (q .2) (q .4)) k))))
             (gb .into z (q .3) (q .5))
 
         pub delta-is : Is el n all to C₀ → TakenIn n d₂ to all all′ new new′ → Is el n all′ to (Join A B) × Grew el n new′ to (Join A B) C₀

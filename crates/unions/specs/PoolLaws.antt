@@ -103,11 +103,6 @@ module _ (el : List ℕ) (g : PushdownGame) (n : ℕ) (lay : Layout el g n) wher
     names-place k f z c lc e (of-head i l s h) = omega (arith, h, e, lc, next-row (getD el i 0) (g .states) (g .letters) (ok .small i l))
     names-place k f z c lc e (of-line i l s h) = omega arith
 
-    -- of more lines
-    pub names-more : (k j f z c : ℕ) → k ≤ j → Names el (g .letters) heads keys k f z c → Names el (g .letters) heads keys j f z c
-    names-more k j f z c l (of-head i m e h) = of-head i m e h
-    names-more k j f z c l (of-line i m e h) = of-line i (omega arith) e h
-
     -- a head's place is not a line's
     pub head-row : (q a k : ℕ) → q < g .states → a < g .letters → heads ≡ g .states * g .letters → q * g .letters + a ≡ heads + k → ⊥
     head-row q a k lq la e same = omega (arith, same, e, la, next-row q (g .states) (g .letters) lq)

@@ -9,12 +9,14 @@ use Rattle.family.specs.Masks.{Raising}
 use Rattle.family.proofs.Into.{Adding, adding-starts, adding-skips, adding-more, adding-ends, one-word}
 use Rattle.family.proofs.uniting.unite_into.Statement.{statement}
 use Rattle.family.proofs.uniting.unite_into.Tie as tie
+use Rattle.family.proofs.uniting.unite_by.Reads as unite-by-reads
+use Rattle.family.proofs.uniting.unite_with.Reads as unite-with-reads
 
 abbrev Inv-loop : tie.InvT-loop
-Inv-loop out₀ a at b bt raising n places i₀ out i = (length out ≡ length out₀) × (i ≤ n) × (Raising raising → Adding n a at b bt out₀ out i)
+Inv-loop out₀ a at b bt raising n i₀ out i = (length out ≡ length out₀) × (i ≤ n) × (Raising raising → Adding n a at b bt out₀ out i)
 
 abbrev μ-loop : tie.MeasureT-loop
-μ-loop out₀ a at b bt raising n places i₀ out i = n - i
+μ-loop out₀ a at b bt raising n i₀ out i = n - i
 
 slice-read-out : tie.Need-slice-read-out Inv-loop μ-loop
 slice-read-out c = omega (arith, c .before .before .before .before .before .before .pre .0)
@@ -43,36 +45,29 @@ same-length c = simp length-set
 returns : tie.Need-returns Inv-loop μ-loop
 returns c = (λ r. rw (c .before .before .before .before .if1 .taken) (one-word _ _ _ _ _ (omega (arith, c .before .before .before .before .before .before .before .before .before .pre .0)) _ (c .unite-by .ensures r)), simp length-set)
 
-places-of-requires : tie.Need-places-of-requires Inv-loop μ-loop
-places-of-requires c κs = c .before .before .before .before .before .pre .4
-
 loop-holds : tie.Need-loop-holds Inv-loop μ-loop
 loop-holds c = (refl, omega arith, λ r. adding-starts _ _ _ _ _ _)
 
 add-word : tie.Need-add-word Inv-loop μ-loop
-add-word c = omega (arith, c .before .before .before .before .before .before .before .before .pre, c .loop-test .taken)
+add-word c = omega (arith, c .before .before .before .before .before .before .before .pre, c .loop-test .taken)
 
 mul-word : tie.Need-mul-word Inv-loop μ-loop
-mul-word c = omega (arith, c .before .before .before .before .before .before .before .before .pre, c .loop-test .taken)
+mul-word c = omega (arith, c .before .before .before .before .before .before .before .pre, c .loop-test .taken)
 
 shared-slice-read-word : tie.Need-shared-slice-read-word Inv-loop μ-loop
-shared-slice-read-word c = omega (arith, c .before .before .before .before .before .before .before .before .before .pre, c .before .loop-test .taken)
+shared-slice-read-word c = omega (arith, c .before .before .before .before .before .before .before .before .pre, c .before .loop-test .taken)
 
 unite-with-requires : tie.Need-unite-with-requires Inv-loop μ-loop
-unite-with-requires c κs = (omega (arith, c .before .before .before .before .before .before .before .before .before .before .before .pre .0, c .before .before .before .before .loop .inv .0), c .before .before .before .before .before .before .before .before .before .before .before .pre .1, omega (arith, c .before .before .before .before .before .before .before .before .before .before .before .pre .4, c .before .before .before .loop-test .taken), c .before .before .before .before .before .before .before .before .before .before .before .pre .3, c .before .before .before .before .before .before .before .before .before .before .before .pre .4, c .before .before .before .before .before .places-of .ensures .0, λ j l. c .before .before .before .before .before .places-of .ensures .1 _ j (c .before .before .before .loop-test .taken) l)
+unite-with-requires c κs = (omega (arith, c .before .before .before .before .before .before .before .before .before .before .pre .0, c .before .before .before .before .loop .inv .0), c .before .before .before .before .before .before .before .before .before .before .pre .1, c .before .before .before .loop-test .taken, c .before .before .before .before .before .before .before .before .before .before .pre .3, c .before .before .before .before .before .before .before .before .before .before .pre .4)
 
 add-i : tie.Need-add-i Inv-loop μ-loop
-add-i c = omega (arith, c .before .before .before .before .before .before .before .before .before .before .pre .4, c .before .before .loop-test .taken)
+add-i c = omega (arith, c .before .before .before .before .before .before .before .before .before .pre .4, c .before .before .loop-test .taken)
 
 loop-less : tie.Need-loop-less Inv-loop μ-loop
 loop-less c = omega (arith, c .before .before .loop-test .taken)
 
 loop-again : tie.Need-loop-again Inv-loop μ-loop
-loop-again c =
-    ⊎-elim
-    (λ w. rw (w .5) (w .2 .ensures .1 ∙ c .before .before .before .loop .inv .0, omega (arith, c .before .before .loop-test .taken), λ r. adding-more _ _ _ _ _ _ _ _ (c .before .before .before .loop .inv .2 r) _ (w .2 .ensures .0 r)))
-    (λ w. rw (w .1) (c .before .before .before .loop .inv .0, omega (arith, c .before .before .loop-test .taken), λ r. adding-skips _ _ _ _ _ _ _ _ (c .before .before .before .loop .inv .2 r) (w .0 .left)))
-    (c .if2 .came)
+loop-again c = ⊎-elim (λ w. rw (w .5) (w .2 .ensures .1 ∙ c .before .before .before .loop .inv .0, omega (arith, c .before .before .loop-test .taken), λ r. adding-more _ _ _ _ _ _ _ _ (c .before .before .before .loop .inv .2 r) _ (w .2 .ensures .0 r))) (λ w. rw (w .1) (c .before .before .before .loop .inv .0, omega (arith, c .before .before .loop-test .taken), λ r. adding-skips _ _ _ _ _ _ _ _ (c .before .before .before .loop .inv .2 r) (w .0 .left))) (c .if2 .came)
 
 same-length-2 : tie.Need-same-length-2 Inv-loop μ-loop
 same-length-2 c = c .before .loop .inv .0
@@ -95,7 +90,6 @@ unite-into-spec =
     slice-write-out
     same-length
     returns
-    places-of-requires
     loop-holds
     add-word
     mul-word
