@@ -4,12 +4,12 @@ use Prim.Native.Nat.{ℕ, suc, _+_, _*_, _-_, _<_, _≤_}
 use native.Mathlib.Omega.{arith}
 use mathlib.Core.Path.{_≡_, refl, sym, ap, ap₂, subst, _∙_}
 use mathlib.Core.Logic.{inr, ⊎-elim}
-use mathlib.Core.Bool.{true, false}
+use mathlib.Core.Bool.{true}
 use mathlib.Core.List.{List, [], _∷_, map, flatMap, List·Memᴰ·not-nil}
 use lib.ListN.{length, getD, replicate, length-replicate}
 use lib.Seq.{ext-getD}
 use lib.Pow.{pow-pos}
-use Rattle.game.specs.Sets.{has, union}
+use Rattle.game.specs.Sets.{union}
 use Rattle.game.specs.SetLaws.{none-has}
 use Rattle.game.specs.UnionLaws.{none-union}
 use Rattle.game.specs.Game.{Rule, PushdownGame, ofHead}
@@ -17,23 +17,23 @@ use Rattle.game.specs.GoodGame.{Ranged}
 use Rattle.game.specs.Stored.{ruleAt}
 use Rattle.game.specs.StoredLaws.{noRule}
 use Rattle.game.specs.ListLaws.{_∈_, map-in, in-map}
-use Rattle.table.specs.Table.{Entry, keyOf, tableWords, entryWords, entryStride}
+use Rattle.table.specs.Table.{Entry, tableWords, entryWords, entryStride}
 use Rattle.table.specs.Pairwise.{Pairwise}
 use Rattle.rounds.specs.Rounds.{entryAt, adding, ruleEnds}
 use Rattle.rounds.specs.AddLaws.{Added, adding-in, adding-there}
 use Rattle.rounds.specs.Enumeration.{restRuns}
-use Rattle.rounds.specs.Growing.{Growing, growing, partly}
+use Rattle.rounds.specs.Growing.{growing, partly}
 use Rattle.rounds.specs.GrownRound.{ended}
 use Rattle.rounds.specs.Filled.{Stored, Filled}
-use Rattle.rounds.specs.Scans.{NextRule, rulesBetween}
+use Rattle.rounds.specs.Scans.{rulesBetween}
 use Rattle.rounds.specs.ScanLaws.{rule-at, next-is, none-next}
-use Rattle.walk.specs.AlikeLaws.{one-each, low-of}
-use Rattle.walk.specs.Jobs.{Able, Stands, Whole, Entered, endOf, fieldOf}
-use Rattle.walk.specs.Lists.{Zero, alone, hers}
-use Rattle.walk.specs.Past.{Aging}
-use Rattle.walk.specs.Places.{Placing}
-use Rattle.walk.specs.RoundJobs.{Blank}
-use Rattle.walk.specs.declared.runs.Job.{Job}
+use Rattle.enumeration.specs.AlikeLaws.{one-each, low-of}
+use Rattle.enumeration.specs.Jobs.{Able, Stands, Whole, Entered, endOf, fieldOf}
+use Rattle.enumeration.specs.Lists.{Zero}
+use Rattle.enumeration.specs.Past.{Aging}
+use Rattle.enumeration.specs.Places.{Placing}
+use Rattle.walk.specs.RoundJobs.{alone, hers, Blank}
+use Rattle.enumeration.specs.declared.runs.Job.{Job}
 use Rattle.walk.proofs.Listing.{zero-at}
 use Rattle.walk.proofs.RoundTurns.{blank-memoed}
 

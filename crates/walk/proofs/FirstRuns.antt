@@ -18,16 +18,16 @@ use Rattle.rounds.specs.Rounds.{entryAt}
 use Rattle.game.specs.UnionLaws.{none-union}
 use Rattle.rounds.specs.Enumeration.{restRuns}
 use Rattle.rounds.specs.Growing.{Growing}
-use Rattle.walk.specs.Jobs.{Entered, Whole, subRuns, beginRuns}
+use Rattle.enumeration.specs.Jobs.{Entered, Whole, subRuns, beginRuns}
 use Rattle.rounds.specs.Scans.{NextRule, rulesBetween}
-use Rattle.walk.specs.Past.{older, Past}
+use Rattle.enumeration.specs.Past.{older, Past}
 use Rattle.walk.specs.RoundJobs.{runsOf, runRuns, RunsEnd}
 use Rattle.walk.specs.RoundJobLaws.{run-pops, run-writes}
-use Rattle.walk.specs.declared.runs.Job.{Job}
-use Rattle.walk.specs.NextLaws.{beginOf}
-use Rattle.walk.proofs.Earlier.{past-pops, past-writes}
+use Rattle.enumeration.specs.declared.runs.Job.{Job}
+use Rattle.enumeration.specs.NextLaws.{beginOf}
+use Rattle.enumeration.specs.RuleLaws.{to-is, count-is, to-small}
+use Rattle.enumeration.specs.RestLaws.{past-pops, past-writes}
 use Rattle.rounds.specs.ScanLaws.{rule-at}
-use Rattle.walk.proofs.Turns.{to-is, count-is, to-small}
 
 -- `run_at`: how many runs a rule has that writes letters
 pub runs-written : (rules : List ℕ) (r old : ℕ) → (getD rules (r * 6 + 3) 0 ≡ 0 → ⊥) → runsOf rules r old ≡ old

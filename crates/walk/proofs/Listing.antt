@@ -1,54 +1,32 @@
--- Lists of the ends of rules: none where no rule is listed, and one more after it was kept. A table that was emptied.
+-- Lists of the ends of rules: none where no rule is listed, and one more after it was kept.
 use Prim.Native.Nat.{ℕ, zero, suc, _+_, _*_, _-_, _<_, _≤_}
 use native.Mathlib.Omega.{arith}
 use mathlib.Core.Path.{_≡_, refl, sym, ap, subst, _∙_}
 use mathlib.Core.Logic.{⊎-elim}
 use mathlib.Core.Bool.{true, false}
-use mathlib.Core.List.{List, [], _∷_, List·Memᴰ·head, List·Memᴰ·tail, List·Memᴰ·not-nil}
-use lib.ListN.{length, getD, take, drop, set, replicate, length-set, length-replicate}
-use lib.Seq.{getD-set-same, getD-set-other, getD-append-add, ext-getD}
-use lib.Dec.{eqb, ltb}
-use borrow.Author.Tests.{eqb-true, eqb-false, ltb-true, ltb-false}
+use mathlib.Core.List.{List}
+use lib.ListN.{length, getD, set, replicate, length-set}
+use lib.Seq.{getD-set-same, getD-set-other}
+use lib.Dec.{eqb}
+use borrow.Author.Tests.{eqb-true, eqb-false}
 use Rattle.game.specs.Game.{PushdownGame}
 use Rattle.game.specs.StoredLaws.{noRule}
 use Rattle.game.specs.ListLaws.{_∈_, test}
-use Rattle.table.specs.Table.{Entry, entryWords, tableWords, entryStride}
-use Rattle.table.specs.Pairwise.{Pairwise}
+use Rattle.table.specs.Table.{Entry}
 use Rattle.rounds.specs.Rounds.{ruleEnds}
 use Rattle.rounds.specs.Filled.{Stored}
-use Rattle.rounds.specs.InsertLaws.{noEntry, getD-in, in-getD, length-entryWords}
-use Rattle.rounds.specs.StoredRows.{long, entry-at}
-use Rattle.walk.specs.PastLaws.{part-in}
-use Rattle.walk.specs.Lists.{startOf, stopOf, listOf, Listed, Cleared, Appended, Kept, Bounded}
+use Rattle.rounds.specs.InsertLaws.{noEntry, getD-in, in-getD}
+use Rattle.rounds.specs.StoredRows.{entry-at}
+use Rattle.enumeration.specs.ListedLaws.{list-in, in-list}
+use Rattle.enumeration.specs.Lists.{startOf, stopOf, listOf, Listed, Appended, Kept, Zero, Bounded}
 
 -- where no word says otherwise no rule is listed
-pub listed-none : (g : PushdownGame) (old : List Entry) (lists spans : List ℕ) → ((k : ℕ) → getD spans k 0 ≡ 0) → Listed g old lists spans
+pub listed-none : (g : PushdownGame) (old : List Entry) (lists spans : List ℕ) → Zero spans → Listed g old lists spans
 listed-none g old lists spans none =
     record {
       inside = λ r z l some m. absurd (omega (arith, none (r * 2 + 1)));
       all = λ r z l some m. absurd (omega (arith, none (r * 2 + 1)));
     }
-
--- what stands within a part of a list is in it
-in-part : {A : Type 0} (d : A) (m n : ℕ) (xs : List A) (k : ℕ) → n ≤ k → k < n + m → k < length xs → getD xs k d ∈ take m (drop n xs)
-in-part d zero n xs k l h i = absurd (omega arith)
-in-part d (suc m) n [] k l h i = absurd (omega arith)
-in-part d (suc m) zero (y ∷ xs) zero l h i = List·Memᴰ·head refl
-in-part d (suc m) zero (y ∷ xs) (suc k) l h i = List·Memᴰ·tail (in-part d m zero xs k (omega arith) (omega arith) (omega arith))
-in-part d (suc m) (suc n) (y ∷ xs) zero l h i = absurd (omega arith)
-in-part d (suc m) (suc n) (y ∷ xs) (suc k) l h i = in-part d (suc m) n xs k (omega arith) (omega arith) (omega arith)
-
--- the sets of a list are those from where it begins to where it ends
-module _ (lists spans : List ℕ) (r : ℕ) where
-  pub list-in : startOf spans r < stopOf spans r (length lists) → {z : ℕ} → z ∈ listOf lists spans r
-      → (i : ℕ) × (startOf spans r ≤ i) × (i < stopOf spans r (length lists)) × (z ≡ getD lists i 0)
-  list-in some m =
-      let k = part-in 0 (stopOf spans r (length lists) - startOf spans r) (startOf spans r) lists m in
-      (k .0, k .1, omega (arith, k .2), k .3)
-
-  pub in-list : (i : ℕ) → startOf spans r ≤ i → i < stopOf spans r (length lists) → getD lists i 0 ∈ listOf lists spans r
-  in-list i l h =
-      in-part 0 (stopOf spans r (length lists) - startOf spans r) (startOf spans r) lists i l (omega arith) (omega arith)
 
 -- the set of an entry is its second word
 set-at : (n count : ℕ) (words : List ℕ) (es : List Entry) → Stored n words count es → (i : ℕ) → i < count
@@ -187,47 +165,7 @@ bounded-more lists spans sets count r room lists′ spans′ x before fits kept 
     (kept .either)
 
 -- zeros have 0 at every place
-pub zero-at : (n j : ℕ) → getD {A = ℕ} (replicate n 0) j 0 ≡ 0
+pub zero-at : (n : ℕ) → Zero (replicate n 0)
 zero-at zero j = refl
 zero-at (suc n) zero = refl
 zero-at (suc n) (suc j) = zero-at n j
-
--- so has a table's area beyond its entries
-beyond-entries : (n : ℕ) (words : List ℕ) (count : ℕ) (es : List Entry) → Stored n words count es → (i : ℕ) → count * 3 ≤ i → getD words i 0 ≡ 0
-unfolding tableWords
-beyond-entries n words count es stored i l =
-    let size = length-entryWords es in
-    let zeros : List ℕ = replicate (entryStride * (n - length es)) 0 in
-    let same : length (entryWords es) + (i - length (entryWords es)) ≡ i = omega (arith, size, stored .counted) in
-    rw (stored .stands)
-    (subst (λ (k : ℕ). getD (tableWords es (n - length es)) k 0 ≡ 0) same
-    (getD-append-add (entryWords es) zeros (i - length (entryWords es)) 0
-    ∙ zero-at (entryStride * (n - length es)) (i - length (entryWords es))))
-
--- an area whose entries were zeroed is an empty table
-pub cleared-words : (n : ℕ) (words : List ℕ) (count : ℕ) (es : List Entry) (to : ℕ) (after : List ℕ)
-    → Stored n words count es → count * 3 ≤ to → Cleared words to after → after ≡ tableWords [] n
-unfolding tableWords entryWords
-cleared-words n words count es to after stored l c =
-    ext-getD 0 after (replicate (entryStride * n) 0)
-    (c .long ∙ long n words count es stored ∙ omega (arith, length-replicate {A = ℕ} (entryStride * n) 0))
-    (λ i h.
-    ⊎-elim (λ (t : ltb i to ≡ true). c .zeros i (ltb-true i to t))
-    (λ (t : ltb i to ≡ false).
-    let beyond : to ≤ i = omega (arith, ltb-false i to t) in
-    c .others i beyond ∙ beyond-entries n words count es stored i (omega arith))
-    (test (ltb i to))
-    ∙ sym (zero-at (entryStride * n) i))
-
-pub cleared-table : (n : ℕ) (words : List ℕ) (count : ℕ) (es : List Entry) (to : ℕ) (after : List ℕ)
-    → Stored n words count es → count * 3 ≤ to → Cleared words to after → Stored n after 0 []
-unfolding Pairwise
-cleared-table n words count es to after stored l c =
-    let whole : n ≡ n - 0 = omega arith in
-    record {
-      counted = refl;
-      fits = omega arith;
-      stands = cleared-words n words count es to after stored l c ∙ ap (tableWords []) whole;
-      ascending = tt;
-      small = λ e m. absurd (List·Memᴰ·not-nil m);
-    }

@@ -23,15 +23,15 @@ use Rattle.rounds.specs.Filled.{Stored, Filled}
 use Rattle.rounds.specs.Scans.{rulesBetween}
 use Rattle.rounds.specs.StoredRows.{entry-at}
 use Rattle.rounds.specs.InsertLaws.{noEntry, in-getD}
-use Rattle.walk.specs.Jobs.{Stands, Entered, Finished, Whole}
-use Rattle.walk.specs.Lists.{Listed}
-use Rattle.walk.specs.AlikeLaws.{filled-alike}
-use Rattle.walk.specs.Places.{Placing}
-use Rattle.walk.specs.Past.{older, lateOf, Past, Marked, Aging}
-use Rattle.walk.specs.PastLaws.{older-at}
+use Rattle.enumeration.specs.Jobs.{Stands, Entered, Finished, Whole}
+use Rattle.enumeration.specs.Lists.{Listed}
+use Rattle.enumeration.specs.AlikeLaws.{filled-alike}
+use Rattle.enumeration.specs.Places.{Placing}
+use Rattle.enumeration.specs.Past.{older, lateOf, Past, Marked, Aging}
+use Rattle.enumeration.specs.PastLaws.{older-at}
 use Rattle.walk.specs.RoundJobs.{Blank, RunsEnd}
 use Rattle.walk.specs.RoundJobLaws.{jobAt}
-use Rattle.walk.specs.declared.runs.Job.{Job}
+use Rattle.enumeration.specs.declared.runs.Job.{Job}
 use Rattle.walk.proofs.Rounding.{Entries, runAt, runsFrom, jobEntries, rulesFrom, turnAt, turnsFrom, Setting, Known, Rightly, Adds, Turning, goes-on, ends, passes}
 use Rattle.walk.proofs.RoundTurns.{AtRule, blank-memoed, runs-split, runs-ended, runs-aged, rules-split, past-split, turns-split, turns-in-round, turns-all, job-stands, job-aging, job-whole, job-past}
 

@@ -6,7 +6,7 @@ use native.Mathlib.Numerals.{add-one}
 use mathlib.Core.Path.{_≡_, refl, sym, ap, ap₂, subst, _∙_}
 use mathlib.Core.Logic.{_⊎_, inl, inr, ⊎-elim}
 use mathlib.Core.Bool.{Bool, true, false, cond}
-use mathlib.Core.List.{List, [], _∷_, _++_, map, flatMap, List·Memᴰ·tail}
+use mathlib.Core.List.{List, [], _∷_, _++_, map, List·Memᴰ·tail}
 use lib.ListN.{length, getD, drop, replicate}
 use lib.Dec.{eqb, ltb, leb}
 use borrow.Author.Tests.{ne-eqb, eqb-true, eqb-false, ltb-true, ltb-false}
@@ -24,18 +24,18 @@ use Rattle.judge.specs.Worth.{entryOfHead}
 use Rattle.rounds.specs.Rounds.{below, entryAt, candidates}
 use Rattle.rounds.specs.Enumeration.{restRuns, map-flatMap}
 use Rattle.rounds.specs.Growing.{Growing}
-use Rattle.walk.specs.Jobs.{Able, Stands, Whole, Memoed, endOf, fieldOf, subRuns, beginRuns, tagOf}
+use Rattle.enumeration.specs.Jobs.{Able, Stands, Whole, Memoed, endOf, fieldOf, subRuns, beginRuns, tagOf}
 use Rattle.rounds.specs.Scans.{NextRule, rulesBetween}
-use Rattle.walk.specs.Past.{older, Past, Settled, SettledFrom, Aging}
-use Rattle.walk.specs.PastLaws.{past-same, rest-aged}
-use Rattle.walk.specs.Places.{PlacedHead, PlacedTo, Placing}
+use Rattle.enumeration.specs.Past.{older, Past, Settled, SettledFrom, Aging}
+use Rattle.enumeration.specs.PastLaws.{past-same, rest-aged}
+use Rattle.enumeration.specs.Places.{PlacedHead, PlacedTo, Placing}
 use Rattle.rounds.specs.InsertLaws.{noEntry, getD-in}
 use Rattle.walk.specs.RoundJobs.{jobOf, runsOf, runRuns, Blank, RunsStart, RunsEnd, First}
-use Rattle.walk.specs.AlikeLaws.{Alike}
+use Rattle.enumeration.specs.AlikeLaws.{Alike}
 use Rattle.walk.specs.TurnLaws.{agrees, turnGives, turns-in, turns-alike}
 use Rattle.walk.specs.RoundJobLaws.{jobsFrom, jobAt, jobs-are, next-same, none-after, job-first, runs-by-place, from-number, from-last, run-writes}
-use Rattle.walk.specs.declared.runs.Job.{Job}
-use Rattle.walk.proofs.HeadPlaces.{before-head, after-head}
+use Rattle.enumeration.specs.declared.runs.Job.{Job}
+use Rattle.enumeration.specs.HeadPlaces.{before-head, after-head}
 use Rattle.rounds.specs.ScanLaws.{rule-at, head-at}
 use Rattle.walk.proofs.Rounding.{runAt, runsFrom, rulesFrom, turnAt, turnsFrom, Setting}
 use Rattle.walk.proofs.FirstRuns.{runs-written, runs-popped}

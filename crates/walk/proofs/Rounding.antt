@@ -1,8 +1,7 @@
 -- The turns of a round. Each of its loops adds a list of its own, part by part: the runs of a job, the jobs of a head, the turns of heads.
 use Prim.Native.Nat.{ℕ, _*_, _/_, _<_}
-use native.Mathlib.Omega.{arith}
-use mathlib.Core.Path.{_≡_, refl, sym, ap, _∙_}
-use mathlib.Core.Logic.{_⊎_, ⊎-elim}
+use mathlib.Core.Path.{_≡_, refl, ap, _∙_}
+use mathlib.Core.Logic.{_⊎_}
 use mathlib.Core.Bool.{true}
 use mathlib.Core.List.{List, [], _++_, map, flatMap}
 use lib.ListN.{length, getD, drop}
@@ -18,16 +17,16 @@ use Rattle.rounds.specs.RoundLaws.{AllRanged}
 use Rattle.rounds.specs.Growing.{Growing, growing}
 use Rattle.rounds.specs.GrowingLaws.{growing-append, held-passed}
 use Rattle.rounds.specs.Filled.{Stored, Filled}
-use Rattle.walk.specs.AlikeLaws.{full-any, over-full}
-use Rattle.walk.specs.Places.{Placing}
-use Rattle.walk.specs.Past.{older, Past}
-use Rattle.walk.specs.PastLaws.{past-stays}
-use Rattle.walk.specs.Lists.{Listed}
-use Rattle.walk.specs.Jobs.{Finished, Memoed}
+use Rattle.enumeration.specs.AlikeLaws.{full-any, over-full}
+use Rattle.enumeration.specs.Places.{Placing}
+use Rattle.enumeration.specs.Past.{older, Past}
+use Rattle.enumeration.specs.PastLaws.{past-stays}
+use Rattle.enumeration.specs.Lists.{Listed}
+use Rattle.enumeration.specs.Jobs.{Finished, Memoed}
 use Rattle.walk.specs.RoundJobs.{runRuns}
 use Rattle.walk.specs.TurnLaws.{turnGives}
 use Rattle.walk.specs.RoundJobLaws.{jobsFrom, jobAt}
-use Rattle.walk.specs.declared.runs.Job.{Job}
+use Rattle.enumeration.specs.declared.runs.Job.{Job}
 
 -- The entries that a part of a round gives, of a game and an old round.
 abbrev pub Entries : Type 0

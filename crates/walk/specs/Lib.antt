@@ -1,15 +1,4 @@
-pub mod Memo
-pub mod Jobs
-pub mod JobLaws
-pub mod NextLaws
-pub mod MemoLaws
 pub mod RoundJobs
 pub mod RoundJobLaws
-pub mod Places
-pub mod Walk
-pub mod Lists
-pub mod AlikeLaws
 pub mod TurnLaws
-pub mod Past
-pub mod PastLaws
 pub mod RoundPast

@@ -1,15 +1,13 @@
 -- Laws of the jobs of a round: heads taken as one number, the jobs of a head one after another, and the runs of a job by their
 -- places.
-use Prim.Native.Nat.{ℕ, zero, suc, _+_, _*_, _-_, _/_, _%_, _<_, _≤_}
+use Prim.Native.Nat.{ℕ, zero, suc, _+_, _*_, _-_, _<_, _≤_}
 use native.Mathlib.Omega.{arith}
-use native.Mathlib.Nat.{add-zero, add-suc, zero-mul, suc-mul}
 use mathlib.Core.Path.{_≡_, refl, sym, ap, ap₂, _∙_}
 use mathlib.Core.Logic.{⊎-elim}
 use mathlib.Core.Bool.{true, false, cond}
-use mathlib.Core.List.{List, [], _∷_, _++_, map, flatMap, append-nil, append-assoc, List·Memᴰ·not-nil}
+use mathlib.Core.List.{List, [], _∷_, _++_, map, flatMap, append-nil, List·Memᴰ·not-nil}
 use lib.ListN.{length, getD, take, drop, length-append, List·getD-append}
 use lib.Seq.{take-all, getD-at}
-use lib.Arith.{digits-div, digits-mod}
 use lib.Dec.{eqb, ltb}
 use borrow.Author.Tests.{eqb-true, eqb-false, ltb-true, ltb-false}
 use Rattle.game.specs.Sets.{single, union}
@@ -22,13 +20,13 @@ use Rattle.game.specs.Win.{isAbelard}
 use Rattle.table.specs.Table.{Entry}
 use Rattle.rounds.specs.Rounds.{below, unions, ruleEnds, entryAt, eloiseCandidates, abelardCandidates, headCandidates}
 use Rattle.game.specs.UnionLaws.{none-union}
-use Rattle.rounds.specs.Enumeration.{restRuns, flatMap-append, flatMap-same, rest-is}
+use Rattle.rounds.specs.Enumeration.{restRuns, flatMap-same, rest-is}
 use Rattle.rounds.specs.InsertLaws.{noEntry}
 use Rattle.rounds.specs.Scans.{rulesBetween, NextRule}
-use Rattle.walk.specs.Jobs.{endOf, fieldOf, subRuns, beginRuns}
-use Rattle.walk.specs.JobLaws.{from-place, from-end}
+use Rattle.enumeration.specs.Jobs.{endOf, fieldOf, subRuns, beginRuns}
+use Rattle.enumeration.specs.JobLaws.{from-place, from-end}
 use Rattle.rounds.specs.ScanLaws.{next-is, none-next}
-use Rattle.walk.specs.NextLaws.{beginOf, pops, writes}
+use Rattle.enumeration.specs.NextLaws.{beginOf, pops, writes}
 use Rattle.walk.specs.RoundJobs.{runsOf, runRuns}
 
 length-below : (n : ℕ) → length (below n) ≡ n
@@ -54,40 +52,6 @@ module _ {B : Type 0} where
 
   pub from-last : (f : ℕ → List B) (i n : ℕ) → n ≤ i → flatMap f (drop i (below n)) ≡ []
   from-last f i n l = from-end f i (below n) (omega (arith, length-below n))
-
-  flatMap-last : {A : Type 0} (f : A → List B) (xs : List A) (x : A) → flatMap f (xs ++ (x ∷ [])) ≡ flatMap f xs ++ f x
-  unfolding flatMap
-  flatMap-last f xs x = flatMap-append f xs (x ∷ []) ∙ ap (flatMap f xs ++_) (append-nil (f x))
-
-  same-below : (f h : ℕ → List B) (n : ℕ) → ((i : ℕ) → i < n → f i ≡ h i) → flatMap f (below n) ≡ flatMap h (below n)
-  unfolding below flatMap
-  same-below f h zero e = refl
-  same-below f h (suc n) e =
-      flatMap-last f (below n) n
-      ∙ ap₂ _++_ (same-below f h n (λ i l. e i (omega arith))) (e n (omega arith))
-      ∙ sym (flatMap-last h (below n) n)
-
-  below-sum : (f : ℕ → List B) (m k : ℕ) → flatMap f (below (m + k)) ≡ flatMap f (below m) ++ flatMap (λ i. f (m + i)) (below k)
-  unfolding below flatMap
-  below-sum f m zero = rw (add-zero m) (sym (append-nil (flatMap f (below m))))
-  below-sum f m (suc k) =
-      rw (add-suc m k)
-      (flatMap-last f (below (m + k)) (m + k)
-      ∙ ap (_++ f (m + k)) (below-sum f m k)
-      ∙ append-assoc (flatMap f (below m)) (flatMap (λ i. f (m + i)) (below k)) (f (m + k))
-      ∙ ap (flatMap f (below m) ++_) (sym (flatMap-last (λ i. f (m + i)) (below k) k)))
-
-  -- pairs of numbers taken as one number
-  pub pairs-are : (f : ℕ → ℕ → List B) (l m : ℕ)
-      → flatMap (λ p. flatMap (f p) (below l)) (below m) ≡ flatMap (λ h. f (h / l) (h % l)) (below (m * l))
-  unfolding below flatMap
-  pairs-are f l zero = rw (zero-mul l)
-  pairs-are f l (suc m) =
-      rw (suc-mul m l)
-      (flatMap-last (λ p. flatMap (f p) (below l)) (below m) m
-      ∙ ap₂ _++_ (pairs-are f l m)
-      (same-below (f m) (λ a. f ((m * l + a) / l) ((m * l + a) % l)) l (λ a k. sym (ap₂ f (digits-div m k) (digits-mod m k))))
-      ∙ sym (below-sum (λ h. f (h / l) (h % l)) (m * l) l))
 
   -- a list taken by the places of its elements
   module _ {A : Type 0} (f : A → List B) (d : A) (xs : List A) where

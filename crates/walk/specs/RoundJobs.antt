@@ -1,5 +1,5 @@
--- The jobs of a round: for each rule of Éloise's head one, and one for Abelard's head from his first rule on; and the runs of a
--- job by the first transition of its first rule.
+-- The jobs of a round: for each rule of Éloise's head one, and one for Abelard's head from his first rule on; a rule of his by itself,
+-- as one of hers; and the runs of a job by the first transition of its first rule.
 use Prim.Native.Nat.{ℕ, _+_, _*_, _<_, _≤_}
 use mathlib.Core.Path.{_≡_}
 use mathlib.Core.Bool.{Bool, true, false, cond}
@@ -14,10 +14,10 @@ use Rattle.game.specs.declared.game.Sizes.{Sizes}
 use Rattle.table.specs.Table.{Entry, key, firstWord}
 use Rattle.table.specs.Rows.{Placed}
 use Rattle.rounds.specs.Scans.{NextRule}
-use Rattle.walk.specs.Places.{PlacedHead}
-use Rattle.walk.specs.Memo.{lineAt}
-use Rattle.walk.specs.Jobs.{subRuns, beginRuns}
-use Rattle.walk.specs.declared.runs.Job.{Job}
+use Rattle.enumeration.specs.Places.{PlacedHead}
+use Rattle.enumeration.specs.Memo.{lineAt}
+use Rattle.enumeration.specs.Jobs.{subRuns, beginRuns}
+use Rattle.enumeration.specs.declared.runs.Job.{Job}
 
 abbrev pub jobWith : Sizes → ℕ → ℕ → ℕ → ℕ → ℕ → ℕ → Bool → Job
 jobWith sizes p a birthdate r old last abelards =
@@ -33,6 +33,32 @@ jobWith sizes p a birthdate r old last abelards =
 
 abbrev pub jobOf : Sizes → ℕ → ℕ → ℕ → ℕ → ℕ → ℕ → Job
 jobOf sizes p a birthdate r old last = jobWith sizes p a birthdate r old last (has (sizes .abelard) p)
+
+-- the job of rule r by itself, as one of Éloise's
+abbrev pub alone : Job → ℕ → Job
+alone job r =
+    record {
+      state = job .state;
+      letter = job .letter;
+      first = job .first;
+      field = r + 1;
+      end = r + 1;
+      count = job .count;
+      last = r + 1;
+    }
+
+-- the game where every state is Éloise's
+abbrev pub hers : PushdownGame → PushdownGame
+hers g =
+    record {
+      control = g .control;
+      states = g .states;
+      letters = g .letters;
+      abelard = 0;
+      finals = g .finals;
+      rules = g .rules;
+      targets = g .targets;
+    }
 
 -- where a head's rules begin in a turn: at its first rule, or after all rules where the turn is not its own
 pub record First (rules : List ℕ) (rulecount : ℕ) (own : Bool) (p a r : ℕ) : Type 0 where

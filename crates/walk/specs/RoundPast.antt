@@ -17,7 +17,7 @@ use Rattle.rounds.specs.Candidates.{candidates-in, in-candidates}
 use Rattle.rounds.specs.Growing.{partly, grow-there}
 use Rattle.rounds.specs.GrowingLaws.{HeldBy}
 use Rattle.rounds.specs.RoundLaws.{roundTable, round-date, key-of}
-use Rattle.walk.specs.Past.{older}
+use Rattle.enumeration.specs.Past.{older}
 
 module _ (f : Entry → Bool) where
   -- what is kept of a list whose elements all pass, and of a table to which entries were added that do not

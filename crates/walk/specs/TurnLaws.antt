@@ -19,11 +19,11 @@ use Rattle.table.specs.Pairwise.{Pairwise, pairwise-flatMap}
 use Rattle.rounds.specs.Rounds.{below, headCandidates, candidates}
 use Rattle.rounds.specs.EndsLaws.{below-in, in-below, below-pairwise}
 use Rattle.rounds.specs.EndsRange.{Proper}
-use Rattle.rounds.specs.Candidates.{Candidate, candidates-in, head-in, low-head, low-first, apart, parts, gives-proper}
+use Rattle.rounds.specs.Candidates.{candidates-in, head-in, low-head, low-first, apart, parts, gives-proper}
 use Rattle.rounds.specs.AddLaws.{LowFirst}
 use Rattle.rounds.specs.RoundLaws.{same-entry}
 use Rattle.rounds.specs.ScanLaws.{head-at}
-use Rattle.walk.specs.AlikeLaws.{Alike}
+use Rattle.enumeration.specs.AlikeLaws.{Alike}
 
 -- a turn among the later ones is for Abelard's heads, another for Éloise's
 abbrev pub agrees : Bool → Bool → Bool

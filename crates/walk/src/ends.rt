@@ -1,13 +1,13 @@
 // The ends of the later rules of Abelard's head, found before its runs are taken and kept as lists: once for each rule, and not anew
 // for each union of ends of the rules before it. A rule with too many ends is not listed.
-use crate::lists::clear_spans;
-use crate::lists::clear_words;
-use crate::lists::keep_list;
-use crate::memo::LINE;
-use crate::places::end_at;
-use crate::places::start_at;
-use crate::runs::Job;
-use crate::runs::runs_with;
+use enumeration::Job;
+use enumeration::LINE;
+use enumeration::clear_spans;
+use enumeration::clear_words;
+use enumeration::end_at;
+use enumeration::keep_list;
+use enumeration::runs_with;
+use enumeration::start_at;
 use game::Game;
 use rounds::next_rule;
 use table::EntryWords;
@@ -23,11 +23,11 @@ ghost use Rattle.table.specs.Table.{Entry};
 ghost use Rattle.rounds.specs.Rounds.{entryAt, ruleEnds};
 ghost use Rattle.rounds.specs.Growing.{growing, partly};
 ghost use Rattle.rounds.specs.Filled.{Stored, Filled};
-ghost use Rattle.walk.specs.Past.{Aging};
-ghost use Rattle.walk.specs.Jobs.{Able, Stands};
-ghost use Rattle.walk.specs.Lists.{Listed, Unlisted, alone, Zero, Bounded};
-ghost use Rattle.walk.specs.Places.{Placing};
-ghost use Rattle.walk.specs.RoundJobs.{Blank};
+ghost use Rattle.enumeration.specs.Past.{Aging};
+ghost use Rattle.enumeration.specs.Jobs.{Able, Stands};
+ghost use Rattle.enumeration.specs.Lists.{Listed, Zero, Bounded};
+ghost use Rattle.enumeration.specs.Places.{Placing};
+ghost use Rattle.walk.specs.RoundJobs.{alone, Blank};
 
 // How many ends of a rule can be found, and how many lines the memo for it has.
 const ENDS: usize = 1024;

@@ -1,21 +1,21 @@
 // A round: what the runs of the old round give, head by head, rule by rule and run by run.
 use crate::ends::list_later;
-use crate::fresh::LETTERS;
-use crate::fresh::last_fresh;
-use crate::fresh::late_of;
-use crate::fresh::set_fresh;
-use crate::lists::LISTED;
-use crate::lists::SPANS;
-use crate::memo::LINE;
-use crate::memo::LINES;
-use crate::places::PLACES;
-use crate::places::end_at;
-use crate::places::set_places;
-use crate::places::start_at;
-use crate::runs::Job;
-use crate::runs::joined;
-use crate::runs::rules_after;
-use crate::runs::runs_with;
+use enumeration::Job;
+use enumeration::LETTERS;
+use enumeration::LINE;
+use enumeration::LINES;
+use enumeration::LISTED;
+use enumeration::PLACES;
+use enumeration::SPANS;
+use enumeration::end_at;
+use enumeration::joined;
+use enumeration::last_fresh;
+use enumeration::late_of;
+use enumeration::rules_after;
+use enumeration::runs_with;
+use enumeration::set_fresh;
+use enumeration::set_places;
+use enumeration::start_at;
 use game::Game;
 use game::Sizes;
 use game::has_state;
@@ -38,12 +38,12 @@ ghost use Rattle.rounds.specs.RoundLaws.{AllRanged};
 ghost use Rattle.rounds.specs.GrowingLaws.{HeldBy};
 ghost use Rattle.rounds.specs.Enumeration.{restRuns};
 ghost use Rattle.rounds.specs.Scans.{rulesBetween};
-ghost use Rattle.walk.specs.Past.{lateOf, older, Past, Aging, Marked, SettledFrom};
+ghost use Rattle.enumeration.specs.Past.{lateOf, older, Past, Aging, Marked, SettledFrom};
 ghost use Rattle.rounds.specs.Growing.{Growing, growing, partly};
 ghost use Rattle.rounds.specs.Filled.{Stored, Filled};
-ghost use Rattle.walk.specs.Jobs.{Able, Whole, Entered, Finished};
-ghost use Rattle.walk.specs.Lists.{Listed, Unlisted};
-ghost use Rattle.walk.specs.Places.{Placing};
+ghost use Rattle.enumeration.specs.Jobs.{Able, Whole, Entered, Finished};
+ghost use Rattle.enumeration.specs.Lists.{Listed, Zero};
+ghost use Rattle.enumeration.specs.Places.{Placing};
 ghost use Rattle.walk.specs.RoundJobs.{jobOf, runsOf, runRuns, Blank, RunsStart, RunsEnd, First};
 ghost use Rattle.walk.specs.TurnLaws.{agrees};
 
@@ -107,7 +107,7 @@ fn add_runs(
     late: u32,
 ) -> usize
     requires { ⌜ Safe sizes (now rules) × (0 < sizes .letters) × (old * 3 ≤ length (now work)) × (birthdate < 65536)
-        × (length (now lists) ≡ 4096) × (length (now spans) ≡ 512) × Unlisted (now spans) ⌝ }
+        × (length (now lists) ≡ 4096) × (length (now spans) ≡ 512) × Zero (now spans) ⌝ }
     ensures { λ r. ⌜ ((g : PushdownGame) (es : List Entry) (n : ℕ) → Held g sizes (now (rules .entry)) → Good g → AllRanged g es
         → Stored n (now (work .entry)) old es → Stored n (now (table .entry)) old es → (1 < birthdate → HeldBy n (candidates g (older birthdate es) birthdate) (partly es))
         → late ≡ lateOf birthdate → Marked (now (work .entry)) (now (fresh .entry)) late old → Placing g (now (work .entry)) old (now (places .entry)) → Blank (now (memo .entry))

@@ -3,30 +3,31 @@
 use Prim.Native.Nat.{ℕ, _-_}
 use native.Mathlib.Omega.{arith}
 use borrow.Author.Needs.{needs}
-use mathlib.Core.Path.{_≡_, refl, sym, ap, _∙_}
+use mathlib.Core.Path.{_≡_, refl, _∙_}
 use mathlib.Core.List.{List, []}
 use lib.ListN.{length}
 use Rattle.game.specs.Game.{PushdownGame}
 use Rattle.table.specs.Table.{Entry}
 use Rattle.rounds.specs.Growing.{Growing, partly}
-use Rattle.walk.specs.Jobs.{Whole, Entered}
-use Rattle.walk.specs.Lists.{hers}
-use Rattle.walk.specs.NextLaws.{beginOf}
-use Rattle.walk.specs.Past.{Aging}
-use Rattle.walk.specs.Places.{Placing}
+use Rattle.enumeration.specs.Jobs.{Whole, Entered}
+use Rattle.enumeration.specs.NextLaws.{beginOf, begins-nothing}
+use Rattle.enumeration.specs.Past.{Aging}
+use Rattle.enumeration.specs.Places.{Placing}
+use Rattle.enumeration.specs.RestLaws.{writes-first, begun}
+use Rattle.enumeration.specs.RuleLaws.{to-is, count-is, above-is, above-placed}
+use Rattle.enumeration.specs.TakingLaws.{Scanning, scan-next, none-fits, scan-from, scan-to}
+use Rattle.walk.specs.RoundJobs.{hers}
 use Rattle.walk.proofs.Alone.{its-end, its-able, placed, enters, ages, begins, finds}
-use Rattle.walk.proofs.Enumerating.{Scanning, scan-next, none-fits}
 use Rattle.walk.proofs.FirstRuns.{itself}
 use Rattle.walk.proofs.Listing.{listed-none, zero-at}
-use Rattle.walk.proofs.Turns.{to-is, count-is, above-is, above-placed, begins-nothing, begun, scan-from, scan-to, writes-first}
 use Rattle.walk.proofs.ends.find_ends.Statement.{statement}
 use Rattle.walk.proofs.ends.find_ends.Tie as tie
 use Rattle.walk.proofs.ends.find_ends.Reads as reads
 use Rattle.walk.proofs.ends.find_ends.Lts as lts
 use Rattle.walk.proofs.ends.alone_of.Reads as alone-of-reads
-use Rattle.walk.proofs.places.end_at.Reads as end-at-reads
-use Rattle.walk.proofs.places.start_at.Reads as start-at-reads
-use Rattle.walk.proofs.runs.runs_with.Reads as runs-with-reads
+use Rattle.enumeration.proofs.end_at.Reads as end-at-reads
+use Rattle.enumeration.proofs.start_at.Reads as start-at-reads
+use Rattle.enumeration.proofs.runs_with.Reads as runs-with-reads
 
 abbrev Inv-loop : tie.InvT-loop
 Inv-loop rules places fresh work sets₀ memo₀ r none unlisted alone at end count₀ i₀ sets memo count i = (length sets ≡ length sets₀) × (length memo ≡ length memo₀) × ((g : PushdownGame) (old : List Entry) (birthdate n : ℕ) (s : Growing) → Entered g old birthdate n alone rules work sets₀ count₀ memo₀ s → Placing g work (alone .count) places → Aging g old birthdate alone fresh → Whole g alone r → Scanning g old birthdate n alone rules work (beginOf g old (alone .state) (alone .letter) (alone .end) r 0) s i sets count memo)

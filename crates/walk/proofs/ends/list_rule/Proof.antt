@@ -3,17 +3,17 @@
 use Prim.Native.Nat.{_*_}
 use native.Mathlib.Omega.{arith}
 use mathlib.Core.Path.{refl, _∙_}
+use Rattle.enumeration.specs.ListedLaws.{all-cleared}
 use Rattle.walk.proofs.Alone.{zero-stored, found}
 use Rattle.walk.proofs.Listing.{listed-more, bounded-more}
-use Rattle.walk.proofs.Writing.{all-cleared}
 use borrow.Author.Needs.{needs}
 use Rattle.walk.proofs.ends.list_rule.Statement.{statement}
 use Rattle.walk.proofs.ends.list_rule.Tie as tie
 use Rattle.walk.proofs.ends.list_rule.Reads as reads
 use Rattle.walk.proofs.ends.list_rule.Lts as lts
 use Rattle.walk.proofs.ends.find_ends.Reads as find-ends-reads
-use Rattle.walk.proofs.lists.clear_words.Reads as clear-words-reads
-use Rattle.walk.proofs.lists.keep_list.Reads as keep-list-reads
+use Rattle.enumeration.proofs.clear_words.Reads as clear-words-reads
+use Rattle.enumeration.proofs.keep_list.Reads as keep-list-reads
 
 -- src/ends.rt:121:14
 mul-if1 : tie.Need-mul-if1

@@ -6,14 +6,14 @@ use borrow.Author.Needs.{needs}
 use mathlib.Core.Path.{_≡_, refl, sym, _∙_}
 use mathlib.Core.Bool.{true}
 use mathlib.Core.List.{List}
-use lib.ListN.{length, getD}
+use lib.ListN.{length}
 use Rattle.game.specs.Game.{PushdownGame, ofHead}
 use Rattle.game.specs.Stored.{ruleAt}
 use Rattle.table.specs.Table.{Entry}
-use Rattle.walk.specs.Jobs.{Stands}
-use Rattle.walk.specs.Past.{Aging}
-use Rattle.walk.specs.Places.{Placing}
-use Rattle.walk.specs.Lists.{Listed, Zero, Bounded}
+use Rattle.enumeration.specs.Jobs.{Stands}
+use Rattle.enumeration.specs.Past.{Aging}
+use Rattle.enumeration.specs.Places.{Placing}
+use Rattle.enumeration.specs.Lists.{Listed, Zero, Bounded}
 use Rattle.walk.proofs.Listing.{listed-none, zero-at}
 use Rattle.walk.proofs.ends.list_rules.Statement.{statement}
 use Rattle.walk.proofs.ends.list_rules.Tie as tie
@@ -21,7 +21,7 @@ use Rattle.walk.proofs.ends.list_rules.Reads as reads
 use Rattle.walk.proofs.ends.list_rules.Lts as lts
 use Rattle.rounds.proofs.next_rule.Reads as next-rule-reads
 use Rattle.walk.proofs.ends.list_rule.Reads as list-rule-reads
-use Rattle.walk.proofs.lists.clear_spans.Reads as clear-spans-reads
+use Rattle.enumeration.proofs.clear_spans.Reads as clear-spans-reads
 
 abbrev Inv-loop : tie.InvT-loop
 Inv-loop job rules places fresh work lists₀ spans₀ first sets₀ memo₀ room₀ r₀ lists spans sets memo room r = (length lists ≡ length lists₀) × (length spans ≡ length spans₀) × (length sets ≡ 3072) × (length memo ≡ 3072) × (room ≤ 4096) × (r ≤ job .end) × (r < job .end → ofHead (job .state) (job .letter) (ruleAt rules (r * 6) 0) ≡ true) × Zero sets × Zero memo × Bounded spans room × ((g : PushdownGame) (old : List Entry) (birthdate : ℕ) → Stands g old birthdate job rules work → Placing g work (job .count) places → Aging g old birthdate job fresh → Listed g old lists spans)

@@ -16,7 +16,7 @@ use Rattle.walk.specs.RoundJobs.{runsOf}
 use Rattle.game.specs.Game.{ofHead}
 use Rattle.game.specs.ListLaws.{_∈_}
 use Rattle.table.specs.Table.{Entry}
-use Rattle.walk.specs.Past.{older}
+use Rattle.enumeration.specs.Past.{older}
 use Rattle.game.specs.Stored.{ruleAt}
 use Rattle.walk.proofs.Rounding.{runsFrom, rulesFrom, turnAt, turnsFrom, jobEntries, Rightly, Turning, starts, becomes, ends, stops}
 use Rattle.rounds.specs.ScanLaws.{few-heads, head-at}

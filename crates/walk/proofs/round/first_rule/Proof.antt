@@ -1,6 +1,6 @@
 use native.Mathlib.Omega.{arith}
-use mathlib.Core.Path.{_≡_, refl, sym, ap, _∙_}
-use mathlib.Core.Bool.{Bool, true, false}
+use mathlib.Core.Path.{refl, sym, ap, _∙_}
+use mathlib.Core.Bool.{Bool}
 use Rattle.game.specs.ListLaws.{clash}
 use Rattle.walk.specs.TurnLaws.{agrees}
 use borrow.Author.Needs.{needs}

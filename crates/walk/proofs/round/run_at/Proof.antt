@@ -7,9 +7,9 @@ use Rattle.walk.proofs.round.run_at.Statement.{statement}
 use Rattle.walk.proofs.round.run_at.Tie as tie
 use Rattle.walk.proofs.round.run_at.Reads as reads
 use Rattle.walk.proofs.round.run_at.Lts as lts
-use Rattle.walk.proofs.runs.joined.Reads as joined-reads
-use Rattle.walk.proofs.runs.rules_after.Reads as rules-after-reads
-use Rattle.walk.proofs.runs.runs_with.Reads as runs-with-reads
+use Rattle.enumeration.proofs.joined.Reads as joined-reads
+use Rattle.enumeration.proofs.rules_after.Reads as rules-after-reads
+use Rattle.enumeration.proofs.runs_with.Reads as runs-with-reads
 
 -- src/round.rt:261:14
 mul-at : tie.Need-mul-at

@@ -8,9 +8,9 @@ use Rattle.walk.proofs.round.take_wide.Statement.{statement}
 use Rattle.walk.proofs.round.take_wide.Tie as tie
 use Rattle.walk.proofs.round.take_wide.Reads as reads
 use Rattle.walk.proofs.round.take_wide.Lts as lts
-use Rattle.walk.proofs.fresh.late_of.Reads as late-of-reads
-use Rattle.walk.proofs.fresh.set_fresh.Reads as set-fresh-reads
-use Rattle.walk.proofs.places.set_places.Reads as set-places-reads
+use Rattle.enumeration.proofs.late_of.Reads as late-of-reads
+use Rattle.enumeration.proofs.set_fresh.Reads as set-fresh-reads
+use Rattle.enumeration.proofs.set_places.Reads as set-places-reads
 use Rattle.walk.proofs.round.add_runs.Reads as add-runs-reads
 
 -- src/round.rt:67:16

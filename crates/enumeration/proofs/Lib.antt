@@ -1,0 +1,15 @@
+pub mod Lines
+pub mod PlacesKept
+pub mod Writing
+pub mod Enumerating
+pub mod Blocking
+pub mod Parts
+pub mod Turns
+pub mod ListTurns
+pub mod Earlier
+pub mod Freshness
+pub mod Depth
+pub mod Levels
+pub mod LevelParts
+pub mod Walking
+pub mod Skipping

@@ -1,0 +1,16 @@
+pub mod Memo
+pub mod Jobs
+pub mod JobLaws
+pub mod NextLaws
+pub mod MemoLaws
+pub mod Places
+pub mod HeadPlaces
+pub mod Walk
+pub mod Lists
+pub mod ListedLaws
+pub mod AlikeLaws
+pub mod Past
+pub mod PastLaws
+pub mod TakingLaws
+pub mod RuleLaws
+pub mod RestLaws
