@@ -26,7 +26,7 @@ use Rattle.unions.specs.UnionSteps.{unionsOf}
 use Rattle.unions.specs.Pool.{Is, Grew, Head, Pool, HeadsHold, Layout}
 use Rattle.unions.specs.JoinLaws.{grew-as}
 use Rattle.unions.specs.Ending.{Sum, Picked, Sets, Runs, Ends, Before, NoSets, Listed, Growth, RuleEnds, RuleBefore}
-use Rattle.unions.specs.EndingLaws.{copied-grew, runs-grew, taken-is}
+use Rattle.unions.specs.EndingLaws.{copied-grew, runs-grew}
 
 -- no transition is in an empty table
 no-head : (q a z : ℕ) → Head [] q a z → ⊥
