@@ -37,6 +37,46 @@ pub rests-start : {el : List ℕ} {g : PushdownGame} {n heads abelard letters ru
 unfolding roundTable
 rests-start {g = g} m re = record { old = []; resting = re; order = order-zero g m }
 
+-- with all of the lines or none
+pub kept-few : {lines kept most : ℕ} → (kept ≡ lines) ⊎ (kept ≡ 0) → lines ≤ most → kept ≤ most
+kept-few {lines = lines} {kept = kept} {most = most} k l = ⊎-elim (λ (e : kept ≡ lines). omega (arith, e, l)) (λ (e : kept ≡ 0). omega (arith, e)) k
+
+pub rests-kept : {el : List ℕ} {g : PushdownGame} {m n heads abelard letters rulecount : ℕ} {rules states numbers raising all new keys rests fresh alive ends added log news held : List ℕ} {lines kept entries i : ℕ} → (kept ≡ lines) ⊎ (kept ≡ 0)
+    → Rests el g m n heads abelard letters rulecount rules states numbers raising all new keys rests fresh alive ends added log news held lines entries i
+    → Rests el g m n heads abelard letters rulecount rules states numbers raising all new keys rests fresh alive ends added log news held kept entries i
+rests-kept {el = el} {g = g} {m = m} {n = n} {heads = heads} {abelard = abelard} {letters = letters} {rulecount = rulecount} {rules = rules} {states = states} {numbers = numbers} {raising = raising} {all = all} {new = new} {keys = keys} {rests = rests} {fresh = fresh} {alive = alive} {ends = ends} {added = added} {log = log} {news = news} {held = held} {lines = lines} {kept = kept} {entries = entries} {i = i} k w =
+    ⊎-elim
+    (λ (e : kept ≡ lines). subst (λ (c : ℕ). Rests el g m n heads abelard letters rulecount rules states numbers raising all new keys rests fresh alive ends added log news held c entries i) (sym e) w)
+    (λ (e : kept ≡ 0).
+    subst (λ (c : ℕ). Rests el g m n heads abelard letters rulecount rules states numbers raising all new keys rests fresh alive ends added log news held c entries i) (sym e)
+    (record { old = w .old; resting = without (w .resting); order = w .order }))
+    k
+  where
+    without : {old es : List Entry} → Resting el g n heads old es i abelard letters rulecount rules states numbers raising all new keys rests fresh alive ends added log news held lines entries
+        → Resting el g n heads old es i abelard letters rulecount rules states numbers raising all new keys rests fresh alive ends added log news held 0 entries
+    without r =
+        record {
+          ground = r .ground;
+          layout = r .layout;
+          listed = r .listed;
+          rows = r .rows;
+          within = r .within;
+          passing =
+              record {
+                hold = r .passing .hold;
+                grew = r .passing .grew;
+                done = λ j z c l f e s. absurd (omega arith);
+                more = λ j z c f e s. absurd (omega arith);
+                left = λ j z c l f e s. absurd (omega arith);
+              };
+          lined = λ j l. absurd (omega arith);
+          ended = r .ended;
+          idle = r .idle;
+          logged = r .logged;
+          tidings = r .tidings;
+          reading = r .reading;
+        }
+
 -- so many entries as a zeroed table has room for
 pub room-is : (m : ℕ) (table : List ℕ) → table ≡ replicate (m * 3) 0 → length table / 3 ≡ m
 room-is m table e = let l = ap length e ∙ length-replicate (m * 3) 0 in omega (arith, l)

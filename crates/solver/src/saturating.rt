@@ -14,6 +14,7 @@ use saturation::take_round;
 use table::EntryWords;
 use unions::write_entries;
 ghost use mathlib.Core.Path.{_≡_};
+ghost use mathlib.Core.Logic.{_⊎_};
 ghost use mathlib.Core.List.{List, []};
 ghost use Prim.Native.Nat.{ℕ, _+_, _*_, _-_, _/_, _<_, _≤_};
 ghost use lib.ListN.{length, getD, replicate};
@@ -176,7 +177,12 @@ fn rounds_on(
     let mut stirred = [0u64; 32];
     let mut held = [0u64; 4];
     let mut i = 0u32;
+    let mut older = 0;
     loop {
+        let kept = Counts {
+            entries: counts.entries,
+            lines: lines_kept(counts.lines, older, counts.entries, size),
+        };
         let next = take_round(
             sizes,
             rules,
@@ -199,7 +205,7 @@ fn rounds_on(
             log,
             size,
             i + 1,
-            counts,
+            kept,
             news,
             &mut gains,
             &mut stirred,
@@ -226,9 +232,30 @@ fn rounds_on(
         if size < next.entries {
             return give_up(table, log, 11, i as usize + 1);
         }
+        older = counts.entries;
         counts = next;
         i += 1;
     }
+}
+
+// How many lines are kept for a round: none, where it is likely not to fit. Then each is made again when it is asked for, and those that the
+// round does not come to are not brought up. It is likely where the last round added more than there is room for, and an eighth of all
+// entries or more: with less, bringing lines up takes little.
+fn lines_kept(lines: usize, older: usize, entries: usize, size: usize) -> usize
+    requires { ⌜ (entries ≤ size) × (size ≤ 2048) ⌝ }
+    ensures { λ r. ⌜ (r ≡ lines) ⊎ (r ≡ 0) ⌝ }
+{
+    if entries < older {
+        return lines;
+    }
+    let gained = entries - older;
+    if gained <= size - entries {
+        return lines;
+    }
+    if 8 * gained <= entries {
+        return lines;
+    }
+    0
 }
 
 // The entries written into the table in order. What `places` held is lost.
