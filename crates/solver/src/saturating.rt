@@ -178,10 +178,11 @@ fn rounds_on(
     let mut held = [0u64; 4];
     let mut i = 0u32;
     let mut older = 0;
+    let mut oldest = 0;
     loop {
         let kept = Counts {
             entries: counts.entries,
-            lines: lines_kept(counts.lines, older, counts.entries, size),
+            lines: lines_kept(counts.lines, oldest, older, counts.entries, size),
         };
         let next = take_round(
             sizes,
@@ -232,6 +233,7 @@ fn rounds_on(
         if size < next.entries {
             return give_up(table, log, 11, i as usize + 1);
         }
+        oldest = older;
         older = counts.entries;
         counts = next;
         i += 1;
@@ -239,17 +241,21 @@ fn rounds_on(
 }
 
 // How many lines are kept for a round: none, where it is likely not to fit. Then each is made again when it is asked for, and those that the
-// round does not come to are not brought up. It is likely where the last round added more than there is room for, and an eighth of all
-// entries or more: with less, bringing lines up takes little.
-fn lines_kept(lines: usize, older: usize, entries: usize, size: usize) -> usize
+// round does not come to are not brought up. It is likely where there is no room for what the round adds if it adds more than the last one
+// by the factor by which that added more than the one before; and if the last one added an eighth of all entries or more, since with less
+// bringing lines up takes little.
+fn lines_kept(lines: usize, oldest: usize, older: usize, entries: usize, size: usize) -> usize
     requires { ⌜ (entries ≤ size) × (size ≤ 2048) ⌝ }
     ensures { λ r. ⌜ (r ≡ lines) ⊎ (r ≡ 0) ⌝ }
 {
     if entries < older {
         return lines;
     }
+    if older < oldest {
+        return lines;
+    }
     let gained = entries - older;
-    if gained <= size - entries {
+    if gained * gained <= (size - entries) * (older - oldest) {
         return lines;
     }
     if 8 * gained <= entries {

@@ -19,11 +19,11 @@ use Rattle.solver.proofs.saturating.settle.Reads as settle-reads
 use Rattle.solver.proofs.solving.give_up.Reads as give-up-reads
 
 abbrev Inv-loop : tie.InvT-loop
-Inv-loop sizes rules states numbers heads n table₀ log₀ all₀ new₀ keys₀ rests₀ hints₀ fresh₀ alive₀ ends₀ firsts nexts raising added₀ first news₀ readers size counts₀ gains₀ stirred₀ held₀ i₀ older₀ table log all new keys rests hints fresh alive ends added news counts gains stirred held i older =
+Inv-loop sizes rules states numbers heads n table₀ log₀ all₀ new₀ keys₀ rests₀ hints₀ fresh₀ alive₀ ends₀ firsts nexts raising added₀ first news₀ readers size counts₀ gains₀ stirred₀ held₀ i₀ older₀ oldest₀ table log all new keys rests hints fresh alive ends added news counts gains stirred held i older oldest =
     Turning sizes heads n first rules states numbers firsts nexts raising readers table₀ log₀ all₀ new₀ keys₀ rests₀ hints₀ fresh₀ alive₀ ends₀ added₀ news₀ table log all new keys rests hints fresh alive ends added news gains stirred held size (counts .entries) (counts .lines) i
 
 abbrev μ-loop : tie.MeasureT-loop
-μ-loop sizes rules states numbers heads n table₀ log₀ all₀ new₀ keys₀ rests₀ hints₀ fresh₀ alive₀ ends₀ firsts nexts raising added₀ first news₀ readers size counts₀ gains₀ stirred₀ held₀ i₀ older₀ table log all new keys rests hints fresh alive ends added news counts gains stirred held i older =
+μ-loop sizes rules states numbers heads n table₀ log₀ all₀ new₀ keys₀ rests₀ hints₀ fresh₀ alive₀ ends₀ firsts nexts raising added₀ first news₀ readers size counts₀ gains₀ stirred₀ held₀ i₀ older₀ oldest₀ table log all new keys rests hints fresh alive ends added news counts gains stirred held i older oldest =
     maxRounds - i
 
 loop-holds : tie.Need-loop-holds Inv-loop μ-loop
