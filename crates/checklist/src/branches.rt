@@ -12,7 +12,7 @@ use crate::sessions::judge_session;
 use crate::sessions::spread_of;
 use crate::tally::Tally;
 use game::Game;
-use lines::Line;
+use output::Line;
 use script::beyond;
 use script::front;
 use script::front_words;

@@ -10,7 +10,7 @@ use crate::samples::put_sample;
 use crate::tally::Tally;
 use game::Game;
 use judge::judge;
-use lines::Line;
+use output::Line;
 use script::byte_at;
 use script::fill;
 use script::front;

@@ -1,7 +1,7 @@
 // A digest of words, the same on every host: FNV-1a of 64 bits over their bytes, four to a word and lowest first.
 //
 // It is for comparing tables by eye. It is no guard against a forged one.
-use lines::Line;
+use output::Line;
 
 // The upper and the lower 32 bits.
 pub struct Digest {

@@ -19,7 +19,7 @@ use crate::cuts::every_file;
 use crate::plays::every_game;
 use crate::twice::every_solve;
 use game::Game;
-use lines::Line;
+use output::Line;
 use table::EntryWords;
 
 // Game files are built in the first buffer and positions in the second. The third area keeps the words of a table.

@@ -3,7 +3,7 @@
 // It leaves out what they answer where nothing is refused.
 use game::Answer;
 use judge::Verdict;
-use lines::Line;
+use output::Line;
 use solver::Solution;
 
 // The number of the question that was answered no, and its place; 0 and 0 where nothing was refused.

@@ -1,5 +1,5 @@
 // The tally: how many tries were made and how many failed. It leaves out which they were, which the lines say.
-use lines::Line;
+use output::Line;
 use script::beyond;
 use script::up;
 

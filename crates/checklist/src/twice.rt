@@ -9,7 +9,7 @@ use crate::samples::file_sample;
 use crate::samples::name_after;
 use crate::samples::put_sample;
 use crate::tally::Tally;
-use lines::Line;
+use output::Line;
 use script::copy;
 use script::fill;
 use script::front;

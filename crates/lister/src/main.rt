@@ -4,9 +4,9 @@
 // It leaves out positions: those are the business of the program `verdicts`.
 use game::Game;
 use libc::STDIN_FILENO;
-use lines::Line;
-use lines::front;
-use lines::refusal;
+use output::Line;
+use output::front;
+use output::refusal;
 use solver::Solution;
 use solver::solve;
 use table::EntryWords;

@@ -2,7 +2,7 @@
 // the stack's number.
 use crate::plays::Played;
 use crate::told::Told;
-use lines::Line;
+use output::Line;
 use script::beyond;
 use script::up;
 

@@ -1,6 +1,6 @@
 // The tally: how many checks were made and how many failed. A check that fails prints one line.
 use crate::told::Told;
-use lines::Line;
+use output::Line;
 use script::up;
 
 pub struct Tally {

@@ -1,6 +1,6 @@
 // What solving and judging answer, as numbers, so that two answers can be compared and printed.
 use judge::Verdict;
-use lines::Line;
+use output::Line;
 use solver::Solution;
 
 // The kind, and two numbers whose meaning it gives.

@@ -4,8 +4,8 @@ use mathlib.Core.Path.{sym}
 use lib.Seq.{length-take-le}
 use native.Mathlib.Omega.{arith}
 use borrow.Author.Needs.{needs}
-use Rattle.lines.proofs.front.Statement.{statement}
-use Rattle.lines.proofs.front.Tie as tie
+use Rattle.output.proofs.front.Statement.{statement}
+use Rattle.output.proofs.front.Tie as tie
 
 returns : tie.Need-returns
 returns c = search needs

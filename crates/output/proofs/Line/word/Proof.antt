@@ -4,8 +4,8 @@
 use Prim.Native.Nat.{_-_, _≤_}
 use lib.ListN.{length}
 use borrow.Author.Needs.{needs}
-use Rattle.lines.proofs.Line.word.Statement.{statement}
-use Rattle.lines.proofs.Line.word.Tie as tie
+use Rattle.output.proofs.Line.word.Statement.{statement}
+use Rattle.output.proofs.Line.word.Tie as tie
 
 abbrev Inv-loop : tie.InvT-loop
 Inv-loop text line₀ i₀ line i = i ≤ length text
