@@ -4,8 +4,8 @@
  * The library reads, solves and judges pushdown reachability games and plays
  * moves in them: reading a game file, solving it into a table of entries,
  * judging a position over a table, playing a move in a session. This header has
- * the four functions, the limits, the numbers of refusals and of verdicts, and
- * the parts of an entry and of a session. The bytes of the formats are in
+ * the version, the four functions, the limits, the numbers of refusals and of
+ * verdicts, and the parts of an entry and of a session. The bytes of the formats are in
  * docs/FORMAT.md; what is proved is in docs/CONTRACT.md. Neither is repeated
  * here beyond what a call needs.
  *
@@ -39,8 +39,19 @@
  *
  * Stack
  *
- * Every function needs at most 1 MiB of stack, whatever the file, the words and
- * the position are. docs/CONTRACT.md, "What is outside", has what was measured.
+ * Every function is meant to need at most 1 MiB of stack, whatever the file, the
+ * words and the position are. This is measured and not proved: the deepest file
+ * that was found needs 1,003,135 bytes. docs/CONTRACT.md, "What is outside", has
+ * what was measured and how.
+ *
+ * Time
+ *
+ * Every call ends, which is proved. How long pushdown_solve takes is not
+ * promised: where more than ten states can be in sets, small files can be made
+ * that take minutes and more. A caller that takes files from elsewhere calls it
+ * where it can be given up, in a process of its own for instance.
+ * docs/PERFORMANCE.md has such files. The other functions take time that grows
+ * with the lengths lent to them.
  */
 #ifndef PUSHDOWN_H
 #define PUSHDOWN_H
@@ -51,6 +62,14 @@
 #ifdef __cplusplus
 extern "C" {
 #endif
+
+/* The version of this header. The major number is raised where a caller must
+ * change something: a number, a layout or a limit is another one. The minor
+ * number is raised where something is only added. CHANGELOG.md has both. */
+
+#define PUSHDOWN_VERSION_MAJOR 1u
+#define PUSHDOWN_VERSION_MINOR 0u
+#define PUSHDOWN_VERSION (PUSHDOWN_VERSION_MAJOR * 65536u + PUSHDOWN_VERSION_MINOR)
 
 /* Limits of a game. */
 
@@ -136,6 +155,13 @@ extern "C" {
 #define PUSHDOWN_JUDGE_KIND 1  /* the kind of verdict */
 #define PUSHDOWN_JUDGE_RULE 2  /* the advised rule's number, from 0; 0 unless PUSHDOWN_ELOISE */
 #define PUSHDOWN_JUDGE_BOUND 3 /* the bound, in moves; 0 unless PUSHDOWN_ELOISE or PUSHDOWN_ABELARD */
+
+/*
+ * The version of the library: major * 65536 + minor. A caller that was compiled
+ * with this header links the library that it goes with if
+ * pushdown_version() == PUSHDOWN_VERSION.
+ */
+uint32_t pushdown_version(void);
 
 /*
  * Reads a game file: questions 1 to 9.

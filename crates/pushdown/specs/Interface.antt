@@ -18,6 +18,17 @@ use Rattle.solver.specs.Leaving.{Call, Report, solveCall}
 abbrev pub wrongLength : ℕ
 wrongLength = 100
 
+-- The version: the major number is raised where a caller must change (a number, a layout or a limit), the minor one by what is only
+-- added.
+abbrev pub versionMajor : ℕ
+versionMajor = 1
+
+abbrev pub versionMinor : ℕ
+versionMinor = 0
+
+abbrev pub version : ℕ
+version = versionMajor * 65536 + versionMinor
+
 -- the words of the areas for results, and the bytes of a session: state, height (lower byte first), cells
 abbrev pub readWords : ℕ
 readWords = 8

@@ -17,7 +17,11 @@ use session::play_move;
 use solver::Solution;
 use solver::solve;
 ghost use mathlib.Core.Path.{_≡_};
-ghost use Rattle.pushdown.specs.Interface.{readCall, solveWith, judgeCall, playCall};
+ghost use Rattle.pushdown.specs.Interface.{version, readCall, solveWith, judgeCall, playCall};
+
+pub const VERSION_MAJOR: u32 = 1;
+
+pub const VERSION_MINOR: u32 = 0;
 
 pub const WRONG_LENGTH: u32 = 100;
 
@@ -30,6 +34,14 @@ pub const JUDGE_WORDS: usize = 4;
 pub const PLAY_WORDS: usize = 1;
 
 pub const SESSION_BYTES: usize = 259;
+
+// The version of the library: major × 65,536 + minor, as `PUSHDOWN_VERSION` of the header that it goes with.
+#[no_mangle]
+pub extern "C" fn pushdown_version() -> u32
+    ensures { λ r. ⌜ r ≡ version ⌝ }
+{
+    VERSION_MAJOR * 65536 + VERSION_MINOR
+}
 
 // Reads a game file. `out` has 8 words: place, control states, states, letters, Abelard's set, the finals' set, rules, target
 // transitions.

@@ -183,7 +183,8 @@ pub fn give_up(begun: &mut [u32], work: &mut [u32], question: u8, place: usize) 
     Solution::Refused { question, place }
 }
 
-// A refusal by a question of reading.
+// A refusal by a question of reading. It is called with a refusal only: `solve` goes on where the answer is done, so no call reaches
+// the other arm, which is there because a match has all cases.
 fn refusal(answer: Answer) -> Solution
     ensures { λ r. ⌜ r ≡ refusedAs answer ⌝ }
 {
