@@ -1,9 +1,12 @@
-//! Times: the best of several calls, since what disturbs a call makes it longer.
+//! Times: the best of several calls, since what disturbs a call makes it longer: of ten at least, unless they are very long.
 
 use std::time::{Duration, Instant};
 
 const FEWEST: u32 = 10;
 const MOST: u32 = 20_000;
+
+/// After so many times the budget no further call is begun, however few there were.
+const BEYOND: u32 = 15;
 
 /// Seconds of a call.
 fn time(call: &mut dyn FnMut()) -> f64 {
@@ -22,7 +25,8 @@ pub fn best_of_each<const N: usize>(budget: Duration, mut calls: [&mut dyn FnMut
     let start = Instant::now();
     let mut best = [f64::INFINITY; N];
     for rounds in 0..MOST {
-        if rounds >= FEWEST && start.elapsed() >= budget {
+        let elapsed = start.elapsed();
+        if rounds >= FEWEST && elapsed >= budget || elapsed >= BEYOND * budget {
             break;
         }
         for (best, call) in best.iter_mut().zip(&mut calls) {

@@ -40,25 +40,37 @@ impl Compared {
         self.answer.map_or(0, |solved| solved.entries)
     }
 
-    fn answer(&self) -> String {
-        match self.answer {
-            Ok(Solved { entries, rounds }) => format!("rounds {rounds} entries {entries}"),
-            Err(Refusal { number, place }) => format!("refused {number} at {place}"),
-        }
+    /// The three times as columns of a table.
+    pub fn times(&self) -> String {
+        [self.library, self.lent, self.heap].map(milliseconds).join(" | ")
     }
 
     fn line(&self) -> String {
         format!(
-            "| {} | {} | {} | {} | {} | {:.2} | {:.2} |{}",
+            "| {} | {} | {} | {:.2} | {:.2} |{}",
             self.name,
-            self.answer(),
-            milliseconds(self.library),
-            milliseconds(self.lent),
-            milliseconds(self.heap),
+            in_words(self.answer),
+            self.times(),
             self.to_lent(),
             self.to_heap(),
-            if self.agrees { "" } else { " DIFFERS" }
+            mark(self.agrees)
         )
+    }
+}
+
+pub fn in_words(answer: Answer) -> String {
+    match answer {
+        Ok(Solved { entries, rounds }) => format!("rounds {rounds} entries {entries}"),
+        Err(Refusal { number, place }) => format!("refused {number} at {place}"),
+    }
+}
+
+/// What stands after a line.
+pub fn mark(agrees: bool) -> &'static str {
+    if agrees {
+        ""
+    } else {
+        " DIFFERS"
     }
 }
 
@@ -70,25 +82,59 @@ fn answer_of(result: library::Result<3>) -> Answer {
     }
 }
 
+/// The solvers in Rust on a file, with 2,048 entries lent.
+pub struct InRust {
+    pub answer: Answer,
+    /// Whether both give the same answer and table, and leave a work area of zeros.
+    pub agree: bool,
+    table: Vec<u32>,
+    lent: [Vec<u32>; 2],
+}
+
+impl InRust {
+    /// Solves by both. At first the areas that are lent are not zero.
+    pub fn solve(file: &[u8]) -> InRust {
+        let mut table = vec![0; library::MAX_TABLE];
+        let mut lent = [[1; library::MAX_TABLE]; 2].map(|words| words.to_vec());
+        let answer = heap::solve(file, &mut table);
+        let [lent_table, lent_work] = &mut lent;
+        let agree = lent::solve(file, lent_table, lent_work) == answer && *lent_table == table && is_zero(lent_work);
+        InRust { answer, agree, table, lent }
+    }
+
+    /// The best times of both.
+    pub fn times(&mut self, file: &[u8], budget: Duration) -> [f64; 2] {
+        let [table, work] = &mut self.lent;
+        best_of_each(
+            budget,
+            [
+                &mut || _ = black_box(lent::solve(black_box(file), table, work)),
+                &mut || _ = black_box(heap::solve(black_box(file), &mut self.table)),
+            ],
+        )
+    }
+}
+
+fn is_zero(words: &[u32]) -> bool {
+    words.iter().all(|word| *word == 0)
+}
+
 /// Compares the solvers on a game with 2,048 entries lent. At first neither area is zero.
-fn compare(game: &Named, budget: Duration) -> Compared {
+pub fn compare(game: &Named, budget: Duration) -> Compared {
     let file = &game.file;
-    let mut areas = [[1; 2], [2; 2]].map(|words| words.map(|word| vec![word; library::MAX_TABLE]));
-    let [[table, work], [lent_table, lent_work]] = &mut areas;
-    let mut heap_table = vec![0; library::MAX_TABLE];
-    let answer = heap::solve(file, &mut heap_table);
-    let by_library = library::solve(file, table, work);
-    let agrees = answer_of(by_library) == answer
+    let InRust { answer, agree, table: mut heap_table, lent: [mut lent_table, mut lent_work] } = InRust::solve(file);
+    let [mut table, mut work] = [1, 1].map(|word| vec![word; library::MAX_TABLE]);
+    let by_library = library::solve(file, &mut table, &mut work);
+    let agrees = agree
+        && answer_of(by_library) == answer
         && (by_library.number != 0 || by_library.words[0] == 0)
-        && lent::solve(file, lent_table, lent_work) == answer
-        && *table == heap_table
-        && *lent_table == heap_table
-        && work.iter().chain(&*lent_work).all(|word| *word == 0);
+        && table == heap_table
+        && is_zero(&work);
     let [library, lent, heap] = best_of_each(
         budget,
         [
-            &mut || _ = black_box(library::solve(black_box(file), table, work)),
-            &mut || _ = black_box(lent::solve(black_box(file), lent_table, lent_work)),
+            &mut || _ = black_box(library::solve(black_box(file), &mut table, &mut work)),
+            &mut || _ = black_box(lent::solve(black_box(file), &mut lent_table, &mut lent_work)),
             &mut || _ = black_box(heap::solve(black_box(file), &mut heap_table)),
         ],
     );

@@ -1,40 +1,12 @@
 //! The four functions of libpushdown.a over slices. Areas and results have the lengths that the header asks for.
 
+#[path = "../include/pushdown.rs"]
+mod functions;
+
+use functions::{pushdown_judge, pushdown_play, pushdown_read, pushdown_solve};
+
 pub const MAX_TABLE: usize = 6144;
 pub const SESSION_BYTES: usize = 259;
-
-extern "C" {
-    fn pushdown_read(file: *const u8, file_len: usize, out: *mut u64, out_len: usize) -> u32;
-    fn pushdown_solve(
-        file: *const u8,
-        file_len: usize,
-        table: *mut u32,
-        table_len: usize,
-        work: *mut u32,
-        work_len: usize,
-        out: *mut u64,
-        out_len: usize,
-    ) -> u32;
-    fn pushdown_judge(
-        file: *const u8,
-        file_len: usize,
-        table: *const u32,
-        table_len: usize,
-        position: *const u8,
-        position_len: usize,
-        out: *mut u64,
-        out_len: usize,
-    ) -> u32;
-    fn pushdown_play(
-        file: *const u8,
-        file_len: usize,
-        session: *mut u8,
-        session_len: usize,
-        rule: u32,
-        out: *mut u64,
-        out_len: usize,
-    ) -> u32;
-}
 
 /// What a function returned, and the words of its result, the place first.
 #[derive(Clone, Copy, Debug, PartialEq, Eq)]

@@ -1,5 +1,5 @@
-//! Game files made by the bench: the longest good one, those that lead the solver deepest, the families of the growth table, and
-//! games at random.
+//! Game files made by the bench: the longest good one, those that lead the solver deepest, the families of the growth table, the
+//! kinds of hard games, and games at random.
 
 use crate::random::Random;
 
@@ -67,9 +67,14 @@ impl Making {
     /// A rule that changes nothing for every head, so that none is without one.
     pub fn idle_rules(&mut self) {
         for p in 0..self.control {
-            for a in 0..self.letters {
-                self.rule(p, a, p, &[a]);
-            }
+            self.idle_letters(p, 0..self.letters);
+        }
+    }
+
+    /// The same for some letters of one control state.
+    fn idle_letters(&mut self, p: u8, letters: std::ops::Range<u8>) {
+        for a in letters {
+            self.rule(p, a, p, &[a]);
         }
     }
 
@@ -133,8 +138,9 @@ pub fn deepest_file(control: u8, below: u8) -> Vec<u8> {
     making.end()
 }
 
-/// Many rules of one Abelard head, each with a run that passes a set of 31 states, after four rules with 1,024 ends each, which is as
-/// many as the library has room to list: (0, 1) → (0, [b, c]) for four letters b and c = 6, then for 42 letters b and 5 letters c.
+/// Many rules of one Abelard head, each with a run that passes a set of 31 states, after four rules with 1,024 ends each, which
+/// is as many as the library has room to list: (0, 1) → (0, [b, c]) for four letters b and c = 6, then for 42 letters b and 5
+/// letters c.
 pub fn unlisted_file() -> Vec<u8> {
     let (above, below) = (42, 5);
     let mut making = Making::new(1, MAX_STATES, 1 + above);
@@ -235,6 +241,142 @@ pub fn chain(above_bottom: u8) -> Vec<u8> {
     for q in 1..MAX_STATES {
         making.target(0, 1, 1 << q);
         making.target(q, 1, 1 << q);
+    }
+    making.end()
+}
+
+/// The state to which the transitions of hard games lead, the one that is final.
+const LAST: u8 = MAX_STATES - 1;
+
+/// A hard game as it begins: one control state, Éloise's or Abelard's, 31 further ones, of which the last is final.
+fn hard_game(letters: u8, is_abelards: bool) -> Making {
+    let mut making = Making::new(1, MAX_STATES, letters);
+    if is_abelards {
+        making.abelard(0);
+    }
+    making.finals(LAST);
+    making
+}
+
+/// The states 1 to n.
+fn first_states(n: u8) -> u32 {
+    (1 << (n + 1)) - 2
+}
+
+impl Making {
+    /// Two transitions of a state on a letter, so that n such states give 2^n unions: to the last state, with or without itself.
+    fn choice(&mut self, q: u8, letter: u8) {
+        self.target(q, letter, 1 << LAST);
+        self.target(q, letter, 1 << q | 1 << LAST);
+    }
+}
+
+/// Hard games of the first kind, of which `games/hard/hard1.game` is the one with 30 states. Éloise's rule (0, 1) → (0, [2, 3])
+/// has one first transition, to n states. Each but the lowest has a choice of two on letter 3, and the lowest has one
+/// transition, to all further states, in which every choice of the others is lost: 2^(n - 1) runs, and one end. The library
+/// passes the states of a set from the highest down, and comes to the lowest last.
+pub fn absorbed_choices(n: u8) -> Vec<u8> {
+    let mut making = hard_game(4, false);
+    making.rule(0, 0, 0, &[0]);
+    making.rule(0, 1, 0, &[2, 3]);
+    making.idle_letters(0, 2..4);
+    making.target(0, 2, first_states(n));
+    for q in 2..=n {
+        making.choice(q, 3);
+    }
+    making.target(1, 3, making.further());
+    making.end()
+}
+
+/// Hard games of the second kind, of which `games/hard/hard2.game` is the one with 20 rules and `games/hard/deepest240.game`
+/// the one with 240, which are as many as a file of the kind can have. Abelard's head (0, 1) has k rules (0, 1) → (0, [b, c]),
+/// all of whose first transitions lead to ten states. Four of them, those with c = 16, have a choice of two for each: 1,024
+/// ends, which with four rules is all that the library has room to list. The others have one end each, which finds no room, so
+/// that they are walked for each union of the listed ones, and each takes another frame of the stack.
+pub fn unlisted_rules(k: u8) -> Vec<u8> {
+    let (states, above) = (10, 16);
+    let mut making = hard_game(1 + above, true);
+    making.rule(0, 1, 0, &[1, 1]);
+    for b in 1..=4 {
+        making.rule(0, 1, 0, &[b, above]);
+    }
+    for b in 1..=above {
+        for c in 1..above {
+            if making.rules < k as usize {
+                making.rule(0, 1, 0, &[b, c]);
+            }
+        }
+    }
+    making.rule(0, 0, 0, &[0]);
+    making.idle_letters(0, 2..1 + above);
+    for b in 1..=above {
+        making.target(0, b, first_states(states));
+    }
+    for q in 1..=states {
+        making.choice(q, above);
+        for c in 1..above {
+            making.target(q, c, 1 << LAST);
+        }
+    }
+    making.end()
+}
+
+/// As many rules of one head as a file can have, none of which the library lists: Abelard's (0, 1) → (0, w) for all 241 words w
+/// of at most two of 15 letters. A rule of two letters is not listed where it has more than 1,024 ends. On every letter seven
+/// states have a choice of two transitions each, and on letters 1 and 2 control state 0 leads to the 23 largest sets of these
+/// states, which give 1,056 ends. The other letters are rewritten to 2, so that they lead to the same sets from round 2 on; the
+/// first rules are theirs, so that the head has no run before. The walk takes a frame for each rule, and comes to the last of
+/// them with its first run.
+pub fn most_rules() -> Vec<u8> {
+    let (states, above, sets) = (7, 15, 23);
+    let mut making = hard_game(1 + above, true);
+    for b in (1..=above).rev() {
+        for c in 1..=above {
+            making.rule(0, 1, 0, &[b, c]);
+        }
+    }
+    for b in (1..=above).rev() {
+        making.rule(0, 1, 0, &[b]);
+    }
+    making.rule(0, 1, 0, &[]);
+    making.rule(0, 0, 0, &[0]);
+    for b in 2..=above {
+        making.rule(0, b, 0, &[2]);
+    }
+    let mut largest: Vec<u32> = (2..=first_states(states)).step_by(2).collect();
+    largest.sort_by_key(|set| std::cmp::Reverse(set.count_ones()));
+    for set in &largest[..sets] {
+        making.target(0, 1, *set);
+        making.target(0, 2, *set);
+    }
+    for q in 1..=states {
+        for c in 1..=above {
+            making.target(q, c, 1 << q);
+            making.target(q, c, 1 << (q + states));
+        }
+    }
+    making.end()
+}
+
+/// Hard games of the third kind, of which `games/hard/hard3.game` is the one with 18 states. Abelard's head (0, 1) has three
+/// rules (0, 1) → (0, [2, c]), whose first transition leads to n states. Two of them, with c = 3 and 4, have a choice of two
+/// for each state, 2^n ends; the third unites with all further states, in which every choice is lost: the head has one entry
+/// more.
+pub fn two_free_rules(n: u8) -> Vec<u8> {
+    let mut making = hard_game(6, true);
+    making.rule(0, 0, 0, &[0]);
+    for c in 3..6 {
+        making.rule(0, 1, 0, &[2, c]);
+    }
+    making.idle_letters(0, 2..6);
+    making.target(0, 2, first_states(n));
+    for c in 3..5 {
+        for q in 1..=n {
+            making.choice(q, c);
+        }
+    }
+    for q in 1..=n {
+        making.target(q, 5, making.further());
     }
     making.end()
 }

@@ -3,9 +3,10 @@
 use crate::judging::full_table;
 use crate::lent;
 use crate::library;
-use crate::making::{deepest_file, fullest_sets, longest_file, ten_elements, unlisted_file};
+use crate::making::{deepest_file, fullest_sets, longest_file, most_rules, ten_elements, unlisted_file, unlisted_rules};
 use crate::reader;
-use std::ffi::c_void;
+use crate::thread::{self, Used};
+use crate::watched::{self, Watched};
 
 /// What every entry point has to get by with.
 pub const LIMIT: usize = 1 << 20;
@@ -18,14 +19,11 @@ pub const FUNCTIONS: [&str; 4] = ["pushdown_read", "pushdown_solve", "pushdown_j
 /// The functions, and the Rust solver that works under the same terms.
 const CALLS: usize = FUNCTIONS.len() + 1;
 
-extern "C" {
-    fn bench_stack_use(
-        size: usize,
-        call: extern "C" fn(*mut c_void),
-        argument: *mut c_void,
-        below_caller: *mut usize,
-        in_all: *mut usize,
-    ) -> i32;
+/// Which of the calls solves by the library.
+const SOLVE: usize = 1;
+
+fn name_of(call: usize) -> &'static str {
+    FUNCTIONS.get(call).unwrap_or(&"lent")
 }
 
 /// What the four functions are called with: a file, a table of 2,048 entries that is well formed for it, and a position, as bytes
@@ -37,6 +35,8 @@ struct Deep {
     session: Vec<u8>,
     rule: u32,
     areas: [Vec<u32>; 2],
+    /// Whether the library's solve ends in any time that can be waited for.
+    ends: bool,
 }
 
 impl Deep {
@@ -52,7 +52,12 @@ impl Deep {
         let rule = game.rules.iter().position(|rule| (rule.from, rule.letter) == (0, letter))? as u32;
         let table = table.unwrap_or_else(|| target_table(&game));
         let areas = [vec![0; library::MAX_TABLE], vec![0; library::MAX_TABLE]];
-        Some(Deep { file, table, position, session, rule, areas })
+        Some(Deep { file, table, position, session, rule, areas, ends: true })
+    }
+
+    /// With a file on which the library's solve does not end.
+    fn endless(file: Vec<u8>) -> Option<Deep> {
+        Deep::new(file, None).map(|deep| Deep { ends: false, ..deep })
     }
 
     /// Calls a function; whether it was answered as it must be: a solve may find that the game does not fit, and a move that the
@@ -86,18 +91,27 @@ fn target_table(game: &reader::Game) -> Vec<u32> {
     table
 }
 
-/// Calls a function in a thread with a stack of so many bytes: whether it was answered as it must be, the bytes that it used
-/// below its caller, and those of the thread in all.
-fn run(deep: &mut Deep, function: usize, size: usize) -> Option<(bool, usize, usize)> {
-    extern "C" fn start(argument: *mut c_void) {
-        let (deep, function, answered) = unsafe { &mut *(argument as *mut (&mut Deep, usize, bool)) };
-        *answered = deep.call(*function);
+/// Calls a function in a thread with a stack of so many bytes: what it used; or what is wrong.
+fn run(deep: &mut Deep, function: usize, size: usize) -> Result<Used, String> {
+    if function == SOLVE && !deep.ends {
+        return watch(deep, size);
     }
-    let (mut below_caller, mut in_all) = (0, 0);
-    let mut argument = (deep, function, false);
-    let pointer = &mut argument as *mut (&mut Deep, usize, bool) as *mut c_void;
-    let failed = unsafe { bench_stack_use(size, start, pointer, &mut below_caller, &mut in_all) };
-    if failed == 0 { Some((argument.2, below_caller, in_all)) } else { None }
+    let mut answered = false;
+    let used = thread::run(size, &mut || answered = deep.call(function));
+    match used {
+        None => Err(format!("{} could not be called in a thread of {size} bytes", name_of(function))),
+        Some(_) if !answered => Err(format!("{} answers otherwise", name_of(function))),
+        Some(used) => Ok(used),
+    }
+}
+
+/// The same of a solve that does not end, looked at while it runs.
+fn watch(deep: &Deep, size: usize) -> Result<Used, String> {
+    match watched::solve(&deep.file, size) {
+        None => Err(format!("the process that was to solve with {size} bytes of stack did not end as it must")),
+        Some(Watched { still_moves: true, .. }) => Err("the stack still grew when the time to look at it was over".to_string()),
+        Some(Watched { used, .. }) => Ok(used),
+    }
 }
 
 /// How many rules the head (0, 1) of a file has.
@@ -123,54 +137,64 @@ fn inputs(games: &[&[u8]]) -> Option<Vec<(String, Vec<Deep>)>> {
     let name = format!("{} rules of a head, more ends than are listed", rules_of_head(&unlisted)?);
     inputs.push((name, vec![Deep::new(unlisted, None)?]));
     inputs.push(("189 rules of a head, sets of 32".to_string(), vec![Deep::new(fullest_sets(), None)?]));
+    for (file, which) in [(unlisted_rules(240), "most of them not listed"), (most_rules(), "none of them listed")] {
+        let name = format!("{} rules of a head, {which}, looked at while it is solved", rules_of_head(&file)?);
+        inputs.push((name, vec![Deep::endless(file)?]));
+    }
     let given: Option<Vec<Deep>> = games.iter().map(|file| Deep::new(file.to_vec(), None)).collect();
     inputs.push((format!("the {} games", games.len()), given?));
     Some(inputs)
 }
 
-/// Prints the need of each function on each input, and of the Rust solver under the same terms; the largest need of each
-/// function, or none where a call could not be made or was answered otherwise than it must be, or where that solver needs more
-/// than the limit.
-pub fn needs(games: &[&[u8]]) -> Option<[usize; 4]> {
-    let mut inputs = inputs(games)?;
-    let mut largest = [0; CALLS];
-    let mut deepest = [0; CALLS];
+/// Prints the need of each function on each input, and of the Rust solver under the same terms, hands on the largest need of each
+/// function, and makes every call once more with a stack of as many bytes as the limit. Or what is wrong: a call that could not be
+/// made or was answered otherwise than it must be, or that needs more than the limit.
+pub fn needs(games: &[&[u8]], mut measured: impl FnMut(&str, usize)) -> Result<(), String> {
+    let mut inputs = inputs(games).ok_or("a file that was made for it is refused")?;
+    let mut largest = [Used::default(); CALLS];
     println!("| input | read | solve | judge | play | lent |");
     println!("|---|---|---|---|---|---|");
     for (name, deeps) in &mut inputs {
-        let mut most = [0; CALLS];
-        for deep in deeps.iter_mut() {
-            for call in 0..CALLS {
-                let (answered, need, in_all) = run(deep, call, MEASURED_IN)?;
-                if !answered {
-                    println!("{name}: {} answers otherwise", FUNCTIONS.get(call).unwrap_or(&"lent"));
-                    return None;
-                }
-                most[call] = need.max(most[call]);
-                deepest[call] = in_all.max(deepest[call]);
-            }
-        }
-        println!("| {name} | {} |", most.map(|need| need.to_string()).join(" | "));
-        largest = std::array::from_fn(|call| most[call].max(largest[call]));
+        let most = most_of(deeps, MEASURED_IN).map_err(|what| format!("{name}: {what}"))?;
+        println!("| {name} | {} |", most.map(|used| used.below_caller.to_string()).join(" | "));
+        largest = std::array::from_fn(|call| larger(most[call], largest[call]));
     }
     println!();
-    for call in 0..CALLS {
-        let name = FUNCTIONS.get(call).unwrap_or(&"lent");
-        if deepest[call] < LIMIT {
-            run_again(&mut inputs, call)?;
-            println!("{name}: every call once more, in threads whose stack has {LIMIT} bytes in all: done");
-        } else {
-            println!("{name}: no run in threads of {LIMIT} bytes: {} are used", deepest[call]);
+    for (function, used) in FUNCTIONS.iter().zip(&largest) {
+        measured(function, used.below_caller);
+    }
+    for (call, used) in largest.iter().enumerate() {
+        let name = name_of(call);
+        if used.in_all > LIMIT {
+            return Err(format!("{name} uses {} bytes of a thread's stack, more than {LIMIT}", used.in_all));
+        }
+        run_again(&mut inputs, call)?;
+        println!("{name}: every call once more, in threads whose stack has {LIMIT} bytes in all: done");
+    }
+    Ok(())
+}
+
+fn larger(one: Used, other: Used) -> Used {
+    Used { below_caller: one.below_caller.max(other.below_caller), in_all: one.in_all.max(other.in_all) }
+}
+
+/// The most that each call uses on some inputs.
+fn most_of(deeps: &mut [Deep], size: usize) -> Result<[Used; CALLS], String> {
+    let mut most = [Used::default(); CALLS];
+    for deep in deeps {
+        for (call, most) in most.iter_mut().enumerate() {
+            *most = larger(run(deep, call, size)?, *most);
         }
     }
-    let [read, solve, judge, play, lent] = largest;
-    (lent < LIMIT).then_some([read, solve, judge, play])
+    Ok(most)
 }
 
 /// Calls a function on every input, in threads whose stack has as many bytes as the limit.
-fn run_again(inputs: &mut [(String, Vec<Deep>)], call: usize) -> Option<()> {
-    for deep in inputs.iter_mut().flat_map(|(_, deeps)| deeps) {
-        run(deep, call, LIMIT).filter(|(answered, ..)| *answered)?;
+fn run_again(inputs: &mut [(String, Vec<Deep>)], call: usize) -> Result<(), String> {
+    for (name, deeps) in inputs {
+        for deep in deeps {
+            run(deep, call, LIMIT).map_err(|what| format!("{name}: {what}"))?;
+        }
     }
-    Some(())
+    Ok(())
 }

@@ -74,7 +74,8 @@ impl Calls {
         }
     }
 
-    /// Takes up what two equal calls left, or, without a library, what they must leave.
+    /// Takes up what two equal calls left, or, where there is no library and none was made, what they must leave: then nothing can
+    /// differ here, and the digest alone is compared, with that of the hosts that make the calls.
     fn take(&mut self, function: usize, expected: Left, got: Option<[(Left, bool); 2]>, arguments: impl Fn() -> String) {
         self.tried[function] += 1;
         let left = match got {
@@ -236,6 +237,7 @@ impl Calls {
     }
 }
 
+/// What two equal calls left; none where there is no library to call.
 fn twice(call: impl Fn() -> (Left, bool)) -> Option<[(Left, bool); 2]> {
     if cfg!(apart_only) {
         None

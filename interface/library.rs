@@ -4,7 +4,21 @@
 //!
 //! Built with `--cfg apart_only` there is no library and none of this is called.
 
+#[cfg(not(apart_only))]
+#[path = "../include/pushdown.rs"]
+mod functions;
+
+#[cfg(not(apart_only))]
+use functions::{pushdown_judge, pushdown_play, pushdown_read, pushdown_solve, pushdown_version, PUSHDOWN_VERSION};
 use std::fmt::Debug;
+
+/// Whether the library is of the version that its declarations are; nothing can differ where there is none.
+pub fn version_agrees() -> bool {
+    #[cfg(not(apart_only))]
+    return unsafe { pushdown_version() } == PUSHDOWN_VERSION;
+    #[cfg(apart_only)]
+    true
+}
 
 /// A buffer that is lent: margin, the slice, margin.
 pub struct Lent<T> {
@@ -50,40 +64,6 @@ impl<T: Copy + PartialEq + Debug> Lent<T> {
     pub fn kept(&self) -> bool {
         self.cells == self.before
     }
-}
-
-#[cfg(not(apart_only))]
-extern "C" {
-    fn pushdown_read(file: *const u8, file_len: usize, out: *mut u64, out_len: usize) -> u32;
-    fn pushdown_solve(
-        file: *const u8,
-        file_len: usize,
-        table: *mut u32,
-        table_len: usize,
-        work: *mut u32,
-        work_len: usize,
-        out: *mut u64,
-        out_len: usize,
-    ) -> u32;
-    fn pushdown_judge(
-        file: *const u8,
-        file_len: usize,
-        table: *const u32,
-        table_len: usize,
-        position: *const u8,
-        position_len: usize,
-        out: *mut u64,
-        out_len: usize,
-    ) -> u32;
-    fn pushdown_play(
-        file: *const u8,
-        file_len: usize,
-        session: *mut u8,
-        session_len: usize,
-        rule: u32,
-        out: *mut u64,
-        out_len: usize,
-    ) -> u32;
 }
 
 #[cfg(not(apart_only))]

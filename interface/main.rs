@@ -2,13 +2,15 @@
 //! functions of the C interface, for every word and byte that they return, leave or must not touch.
 //!
 //! What is tried: the samples of document 01 and its edges; every cut of every sample file; seeded damages of the sample files;
-//! seeded small and wide games. Each file goes through every function, with tables from the solver, damaged tables and garbage, positions
-//! and sessions in form and damaged, rule numbers in and out of range, areas of good and of wrong lengths. Every call is made
-//! twice. What was in an area before is garbage.
+//! seeded small and wide games. Each file goes through every function, with tables from the solver, damaged tables and garbage,
+//! positions and sessions in form and damaged, rule numbers in and out of range, areas of good and of wrong lengths. Every call
+//! is made twice. What was in an area before is garbage.
 //!
 //!     interface [--damages N] [--exact]
 //!
-//! --exact lends every buffer as a block of memory of its own, for a memory checker. Run it where games/ is.
+//! --exact lends every buffer as a block of memory of its own, for a memory checker. Run it where games/ is. Its last line is
+//! the digest of all results; which digest it must be is asked by interface/run. Built with `--cfg apart_only` it makes no
+//! call, and the digest is that of what the implementation written apart says they must leave.
 //!
 //! Leaves out: what the C interface does not hand out (the rules of a game that was read), time, and stack.
 
@@ -343,15 +345,20 @@ fn main() -> ExitCode {
         test.solved_long,
         LONG / 3
     );
-    let times = if cfg!(apart_only) { "not made, no library" } else { "each made twice" };
     for (function, name) in calls::NAMES.iter().enumerate() {
         let (tried, differed) = (test.calls.tried[function], test.calls.differed[function]);
-        println!("{name}: {tried} calls, {times}, {differed} differed");
+        if cfg!(apart_only) {
+            println!("{name}: {tried} calls not made, there is no library; what they must leave is in the digest");
+        } else {
+            println!("{name}: {tried} calls, each made twice, {differed} differed");
+        }
         println!("  answers {}", counts(&test.calls.answered[function]));
     }
     println!("verdicts by kind {}", counts(&test.calls.verdicts));
+    let version_agrees = library::version_agrees();
+    println!("version {}", if version_agrees { "as it is declared" } else { "DIFFERS from the declared one" });
     println!("digest {:016x}", test.calls.digest());
-    if test.calls.differed.iter().any(|count| *count > 0) {
+    if test.calls.differed.iter().any(|count| *count > 0) || !version_agrees {
         ExitCode::FAILURE
     } else {
         ExitCode::SUCCESS

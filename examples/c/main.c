@@ -5,19 +5,26 @@
  *
  *     example FILE STATE LETTER..      the stack's letters, top first, 0 last
  *
+ * Exit status 0: the target was reached; 1: the position is lost, or the library
+ * refused; 2: the file cannot be read; 3: the library is not of the header's
+ * version; 64: the arguments are not as above.
+ *
  * Leaves out: writing a game file, and a table kept from an earlier call.
  */
+#include <errno.h>
 #include <inttypes.h>
 #include <stdio.h>
-#include <stdlib.h>
+#include <string.h>
 
 #include "pushdown.h"
+
+enum { REACHED = 0, NOT_REACHED = 1, NO_FILE = 2, OTHER_VERSION = 3, BAD_USAGE = 64 };
 
 /* The question that a number stands for, in a few words. */
 static const char *cause(uint32_t number)
 {
     switch (number) {
-    case PUSHDOWN_REFUSED_FILE_LENGTH: return "the file's length";
+    case PUSHDOWN_REFUSED_FILE_LENGTH: return "the file has not 1 to 4096 bytes";
     case PUSHDOWN_REFUSED_COMMAND: return "a command that is unknown or cut";
     case PUSHDOWN_REFUSED_FIRST: return "01 is not first, or not only there";
     case PUSHDOWN_REFUSED_OPERAND: return "an operand out of range";
@@ -42,22 +49,52 @@ static const char *cause(uint32_t number)
 static int refused(uint32_t number, const uint64_t *out)
 {
     printf("refused %" PRIu32 " at %" PRIu64 ": %s\n", number, out[PUSHDOWN_PLACE], cause(number));
-    return 1;
+    return NOT_REACHED;
 }
 
 /* Reads at most one byte more than a game file may have: enough for the library
- * to find it too long. Returns the number of bytes, or -1. */
+ * to find it too long. Returns the number of bytes, or -1, and errno says why. */
 static long read_file(const char *name, uint8_t *bytes)
 {
     size_t length;
-    int failed;
+    int failed, why;
     FILE *stream = fopen(name, "rb");
     if (stream == NULL)
         return -1;
     length = fread(bytes, 1, PUSHDOWN_MAX_FILE + 1u, stream);
     failed = ferror(stream);
+    why = errno;
     fclose(stream);
+    errno = why;
     return failed ? -1 : (long)length;
+}
+
+/* A byte from decimal digits, and nothing else before, between or after them:
+ * strtoul would take "x" for 0, and "-1" and " 7" for numbers. */
+static int byte_of(const char *word, uint8_t *byte)
+{
+    unsigned value = 0;
+    const char *digit;
+    for (digit = word; *digit >= '0' && *digit <= '9' && value <= 255u; digit++)
+        value = 10u * value + (unsigned)(*digit - '0');
+    if (digit == word || *digit != '\0' || value > 255u)
+        return 0;
+    *byte = (uint8_t)value;
+    return 1;
+}
+
+/* The position that the arguments from the control state on are. Says which one
+ * is not a byte, and returns 0 then. */
+static int read_position(int count, char **words, uint8_t *position)
+{
+    int i;
+    for (i = 0; i < count; i++)
+        if (!byte_of(words[i], &position[i])) {
+            fprintf(stderr, "example: '%s' is not %s, a number from 0 to 255\n", words[i],
+                    i == 0 ? "the control state" : "a letter");
+            return 0;
+        }
+    return 1;
 }
 
 /* Position bytes have the top letter first, a session's cells the bottom. */
@@ -115,25 +152,29 @@ int main(int argc, char **argv)
     size_t file_len, position_len, i;
     long length;
 
-    if (argc < 4 || (size_t)(argc - 2) > PUSHDOWN_MAX_POSITION) {
-        fprintf(stderr, "usage: example FILE STATE LETTER..\n");
-        return 2;
+    if (pushdown_version() != PUSHDOWN_VERSION) {
+        fprintf(stderr, "example: compiled for version %u.%u of the library and linked with %u.%u\n", PUSHDOWN_VERSION_MAJOR,
+                PUSHDOWN_VERSION_MINOR, (unsigned)pushdown_version() / 65536u, (unsigned)pushdown_version() % 65536u);
+        return OTHER_VERSION;
     }
+    if (argc < 4) {
+        fprintf(stderr, "usage: example FILE STATE LETTER..\n");
+        return BAD_USAGE;
+    }
+    position_len = (size_t)argc - 2u;
+    if (position_len > PUSHDOWN_MAX_POSITION) {
+        fprintf(stderr, "example: %lu letters are more than a stack has, %u\n", (unsigned long)position_len - 1u,
+                PUSHDOWN_MAX_STACK);
+        return BAD_USAGE;
+    }
+    if (!read_position(argc - 2, argv + 2, position))
+        return BAD_USAGE;
     length = read_file(argv[1], file);
     if (length < 0) {
-        fprintf(stderr, "example: cannot read %s\n", argv[1]);
-        return 2;
+        fprintf(stderr, "example: cannot read %s: %s\n", argv[1], strerror(errno));
+        return NO_FILE;
     }
     file_len = (size_t)length;
-    position_len = (size_t)(argc - 2);
-    for (i = 0; i < position_len; i++) {
-        unsigned long byte = strtoul(argv[2 + i], NULL, 10);
-        if (byte > 255) {
-            fprintf(stderr, "example: %s is not a byte\n", argv[2 + i]);
-            return 2;
-        }
-        position[i] = (uint8_t)byte;
-    }
 
     answer = pushdown_read(file, file_len, game, PUSHDOWN_READ_WORDS);
     if (answer != PUSHDOWN_DONE)
@@ -169,10 +210,10 @@ int main(int argc, char **argv)
         switch (verdict[PUSHDOWN_JUDGE_KIND]) {
         case PUSHDOWN_LOST:
             printf(" lost\n");
-            return 1;
+            return NOT_REACHED;
         case PUSHDOWN_TARGET:
             printf(" target after %" PRIu64 " moves\n", moves);
-            return 0;
+            return REACHED;
         case PUSHDOWN_ELOISE:
             rule = (uint32_t)verdict[PUSHDOWN_JUDGE_RULE];
             answer = pushdown_play(file, file_len, session, PUSHDOWN_SESSION_BYTES, rule, move, PUSHDOWN_PLAY_WORDS);

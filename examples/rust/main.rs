@@ -4,12 +4,19 @@
 //!
 //!     example FILE STATE LETTER..      the stack's letters, top first, 0 last
 //!
+//! Exit status 0: the target was reached; 1: the position is lost, or the library refused; 2: the file cannot be read; 3: the
+//! library is of another version; 64: the arguments are not as above.
+//!
 //! Leaves out: writing a game file, and a table kept from an earlier call.
 
 mod pushdown;
 
 use pushdown::{Question, Refused, Session, Verdict, MAX_RULES, MAX_TABLE};
 use std::process::ExitCode;
+
+const NO_FILE: u8 = 2;
+const OTHER_VERSION: u8 = 3;
+const BAD_USAGE: u8 = 64;
 
 /// Abelard's worst rule and the session after it. Every rule number is tried on a copy of the session; question 16 tells those
 /// that are not of the head.
@@ -82,29 +89,55 @@ fn play(file: &[u8], position: &[u8]) -> Result<bool, Refused> {
     }
 }
 
+/// A byte, from decimal digits and nothing else.
+fn byte_of(word: &str) -> Option<u8> {
+    if word.bytes().all(|digit| digit.is_ascii_digit()) {
+        word.parse().ok()
+    } else {
+        None
+    }
+}
+
+/// The position bytes of the arguments, or what is wrong with the first one that is not a byte.
+fn position_of(words: &[String]) -> Result<Vec<u8>, String> {
+    let mut position = vec![];
+    for word in words {
+        let what = if position.is_empty() { "the control state" } else { "a letter" };
+        let byte = byte_of(word).ok_or_else(|| format!("'{word}' is not {what}, a number from 0 to 255"))?;
+        position.push(byte);
+    }
+    Ok(position)
+}
+
 fn main() -> ExitCode {
-    let mut arguments = std::env::args().skip(1);
-    let Some(name) = arguments.next() else {
+    if let Some((major, minor)) = pushdown::other_version() {
+        eprintln!("example: linked with version {major}.{minor} of the library, which is not the one that it was written for");
+        return ExitCode::from(OTHER_VERSION);
+    }
+    let arguments: Vec<String> = std::env::args_os().skip(1).map(|word| word.to_string_lossy().into_owned()).collect();
+    let [name, words @ ..] = &arguments[..] else {
         eprintln!("usage: example FILE STATE LETTER..");
-        return ExitCode::from(2);
+        return ExitCode::from(BAD_USAGE);
     };
-    let file = match std::fs::read(&name) {
-        Ok(file) => file,
-        Err(error) => {
-            eprintln!("example: {name}: {error}");
-            return ExitCode::from(2);
+    let position = match position_of(words) {
+        Ok(position) => position,
+        Err(wrong) => {
+            eprintln!("example: {wrong}");
+            return ExitCode::from(BAD_USAGE);
         }
     };
-    let position: Result<Vec<u8>, _> = arguments.map(|word| word.parse::<u8>()).collect();
-    let Ok(position) = position else {
-        eprintln!("example: a control state and letters are numbers from 0 to 255");
-        return ExitCode::from(2);
+    let file = match std::fs::read(name) {
+        Ok(file) => file,
+        Err(error) => {
+            eprintln!("example: cannot read {name}: {error}");
+            return ExitCode::from(NO_FILE);
+        }
     };
     match play(&file, &position) {
         Ok(true) => ExitCode::SUCCESS,
         Ok(false) => ExitCode::FAILURE,
         Err(Refused { question, place }) => {
-            println!("refused by {question:?} at {place}");
+            println!("refused by {question} at {place}");
             ExitCode::FAILURE
         }
     }

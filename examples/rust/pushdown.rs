@@ -4,37 +4,16 @@
 //!
 //! Leaves out what the types here make impossible: an area for results of the wrong length, and a session of the wrong length.
 
-extern "C" {
-    fn pushdown_read(file: *const u8, file_len: usize, out: *mut u64, out_len: usize) -> u32;
-    fn pushdown_solve(
-        file: *const u8,
-        file_len: usize,
-        table: *mut u32,
-        table_len: usize,
-        work: *mut u32,
-        work_len: usize,
-        out: *mut u64,
-        out_len: usize,
-    ) -> u32;
-    fn pushdown_judge(
-        file: *const u8,
-        file_len: usize,
-        table: *const u32,
-        table_len: usize,
-        position: *const u8,
-        position_len: usize,
-        out: *mut u64,
-        out_len: usize,
-    ) -> u32;
-    fn pushdown_play(
-        file: *const u8,
-        file_len: usize,
-        session: *mut u8,
-        session_len: usize,
-        rule: u32,
-        out: *mut u64,
-        out_len: usize,
-    ) -> u32;
+#[path = "../../include/pushdown.rs"]
+mod functions;
+
+use functions::{pushdown_judge, pushdown_play, pushdown_read, pushdown_solve, pushdown_version, PUSHDOWN_VERSION};
+use std::fmt;
+
+/// The version of the library that is linked, major and minor, where it is not the one that this file was written for.
+pub fn other_version() -> Option<(u32, u32)> {
+    let version = unsafe { pushdown_version() };
+    (version != PUSHDOWN_VERSION).then_some((version / 65_536, version % 65_536))
 }
 
 /// The most letters of a stack.
@@ -83,27 +62,43 @@ pub enum Question {
     Rule,
     /// 17. Is the new stack at most 256 letters?
     Height,
+    /// A number that is none of these, as a later library may return.
+    Unknown(u32),
 }
 
-const QUESTIONS: [Question; 17] = [
-    Question::FileLength,
-    Question::Command,
-    Question::First,
-    Question::Operand,
-    Question::Bottom,
-    Question::Repeated,
-    Question::TooMany,
-    Question::End,
-    Question::Head,
-    Question::Areas,
-    Question::Full,
-    Question::Unsettled,
-    Question::Table,
-    Question::Position,
-    Question::Bound,
-    Question::Rule,
-    Question::Height,
-];
+impl Question {
+    fn of(number: u32) -> Question {
+        match number {
+            1 => Question::FileLength,
+            2 => Question::Command,
+            3 => Question::First,
+            4 => Question::Operand,
+            5 => Question::Bottom,
+            6 => Question::Repeated,
+            7 => Question::TooMany,
+            8 => Question::End,
+            9 => Question::Head,
+            10 => Question::Areas,
+            11 => Question::Full,
+            12 => Question::Unsettled,
+            13 => Question::Table,
+            14 => Question::Position,
+            15 => Question::Bound,
+            16 => Question::Rule,
+            17 => Question::Height,
+            _ => Question::Unknown(number),
+        }
+    }
+}
+
+impl fmt::Display for Question {
+    fn fmt(&self, to: &mut fmt::Formatter) -> fmt::Result {
+        match self {
+            Question::Unknown(number) => write!(to, "number {number}, which this program does not know,"),
+            known => write!(to, "{known:?}"),
+        }
+    }
+}
 
 /// A refusal: the question, and its place as document 01 puts it in brackets.
 #[derive(Clone, Copy, Debug, PartialEq, Eq)]
@@ -138,12 +133,11 @@ pub enum Verdict {
     Abelard { bound: u64 },
 }
 
-/// The library's number as a result. Numbers other than 0 to 17 do not come back from the calls below, whose areas have the
-/// lengths that the library asks for.
+/// The library's number as a result. The number for an area of the wrong length does not come back from the calls below.
 fn answer(number: u32, place: u64) -> Result<(), Refused> {
     match number {
         0 => Ok(()),
-        _ => Err(Refused { question: QUESTIONS[number as usize - 1], place }),
+        _ => Err(Refused { question: Question::of(number), place }),
     }
 }
 
