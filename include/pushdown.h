@@ -30,12 +30,12 @@
  *
  * Results
  *
- * A function returns PUSHDOWN_DONE, the number of the first question that was
- * answered no (PUSHDOWN_REFUSED_..), or PUSHDOWN_WRONG_LENGTH. The rest of the
- * result is in out, whose first word is always the place of a refusal, 0 after
- * PUSHDOWN_DONE. After a refusal every other word of out is 0. After
- * PUSHDOWN_WRONG_LENGTH nothing at all was written, neither out nor any other
- * buffer, and no question was put.
+ * Every function but pushdown_version returns PUSHDOWN_DONE, the number of the
+ * first question that was answered no (PUSHDOWN_REFUSED_..), or
+ * PUSHDOWN_WRONG_LENGTH. The rest of the result is in out, whose first word is
+ * always the place of a refusal, 0 after PUSHDOWN_DONE. After a refusal every
+ * other word of out is 0. After PUSHDOWN_WRONG_LENGTH nothing at all was written,
+ * neither out nor any other buffer, and no question was put.
  *
  * Stack
  *
@@ -46,7 +46,7 @@
  *
  * Time
  *
- * Every call ends, which is proved. How long pushdown_solve takes is not
+ * Every call ends, which is proved. No bound on the time of pushdown_solve is
  * promised: where more than ten states can be in sets, small files can be made
  * that take minutes and more. A caller that takes files from elsewhere calls it
  * where it can be given up, in a process of its own for instance.
@@ -65,7 +65,8 @@ extern "C" {
 
 /* The version of this header. The major number is raised where a caller must
  * change something: a number, a layout or a limit is another one. The minor
- * number is raised where something is only added. CHANGELOG.md has both. */
+ * number is raised where something is only added. CHANGELOG.md says what each
+ * version changed. */
 
 #define PUSHDOWN_VERSION_MAJOR 1u
 #define PUSHDOWN_VERSION_MINOR 0u
