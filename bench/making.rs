@@ -89,7 +89,7 @@ impl Making {
     }
 }
 
-/// The longest file that passes questions 1 to 9: 256 rules, 256 transitions, every control state Abelard's and every further
+/// The longest file that passes the file's questions: 256 rules, 256 transitions, every control state Abelard's and every further
 /// state final.
 pub fn longest_file() -> Vec<u8> {
     let mut making = Making::new(MAX_CONTROL, MAX_STATES, 10);

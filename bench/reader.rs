@@ -1,4 +1,4 @@
-//! Questions 1 to 9, for speed: the game of a file, or the number of the first question answered no, and its place.
+//! The file's questions, 1 to 9 and 19, for speed: the game of a file, or the number of the first question answered no, and its place.
 
 use crate::answer::{refuse, Refusal};
 use std::collections::HashSet;
@@ -49,7 +49,7 @@ pub fn read(file: &[u8]) -> Result<Game, Refusal> {
             _ => return refuse(2, at),
         };
         let Some(command) = file.get(at..at + length) else {
-            return refuse(2, at);
+            return refuse(19, at);
         };
         if let Some(number) = game.take(command, at == 0, &mut before) {
             return refuse(number, at);

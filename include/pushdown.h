@@ -68,7 +68,7 @@ extern "C" {
  * number is raised where something is only added. CHANGELOG.md says what each
  * version changed. */
 
-#define PUSHDOWN_VERSION_MAJOR 1u
+#define PUSHDOWN_VERSION_MAJOR 2u
 #define PUSHDOWN_VERSION_MINOR 0u
 #define PUSHDOWN_VERSION (PUSHDOWN_VERSION_MAJOR * 65536u + PUSHDOWN_VERSION_MINOR)
 
@@ -100,11 +100,14 @@ extern "C" {
 #define PUSHDOWN_DONE 0u
 
 /* The questions, in the order in which they are put; the place is in brackets.
- * Questions 2 to 7 are put to each command before the next one is looked at. */
+ * Questions 2, 19 and 3 to 7 are put to each command before the next one is
+ * looked at. 2 and 19 have two causes: a command that this library does not know,
+ * by a newer linker for instance, and a file whose end is missing. */
 
 /* Reading; every other function puts these first. */
 #define PUSHDOWN_REFUSED_FILE_LENGTH 1u /* Has the file 1 to 4,096 bytes? [0] */
-#define PUSHDOWN_REFUSED_COMMAND 2u     /* Is the command known, with all its operands? [offset of the command] */
+#define PUSHDOWN_REFUSED_COMMAND 2u     /* Is the command byte known? [offset of the command] */
+#define PUSHDOWN_REFUSED_CUT 19u        /* Has the command all its operands before the file's end? [offset of the command] */
 #define PUSHDOWN_REFUSED_FIRST 3u       /* Is 01 the first command, and only there? [offset of the command] */
 #define PUSHDOWN_REFUSED_OPERAND 4u     /* Are operands in range? [offset of the command] */
 #define PUSHDOWN_REFUSED_BOTTOM 5u      /* Does the rule keep the bottom? [offset of the command] */
@@ -113,18 +116,18 @@ extern "C" {
 #define PUSHDOWN_REFUSED_END 8u         /* Is FF there, as the last byte? [its offset, or the file's length] */
 #define PUSHDOWN_REFUSED_HEAD 9u        /* Has every head a rule? [offset of FF] */
 
-/* Solving, after 1 to 9. */
+/* Solving, after 1 to 9 and 19. */
 #define PUSHDOWN_REFUSED_AREAS 10u     /* Are table and work of equal length, a multiple of 3 from 3 to 6,144 words? [0] */
 #define PUSHDOWN_REFUSED_FULL 11u      /* Does each of rounds 0 to 40, taken in order until settled, fit the table? [the round] */
 #define PUSHDOWN_REFUSED_UNSETTLED 12u /* Does round 41 add none? [41] */
 
-/* Judging, after 1 to 9; moving puts 14, too. */
+/* Judging, after 1 to 9 and 19; moving puts 14, too. */
 #define PUSHDOWN_REFUSED_TABLE 13u    /* Is the table well formed? [index of the first entry that fails; 0 for the length] */
 #define PUSHDOWN_REFUSED_POSITION 14u /* Are there 2 to 257 position bytes, in form? [index of the first byte that breaks it;
                                          0 for the length, and always 0 for a session] */
 #define PUSHDOWN_REFUSED_BOUND 15u    /* Is the bound below 2^50? [0] It always is: no call is refused by this. */
 
-/* Moving, after 1 to 9 and 14. */
+/* Moving, after 1 to 9, 19 and 14. */
 #define PUSHDOWN_REFUSED_RULE 16u   /* Is the rule one of this head? [0] */
 #define PUSHDOWN_REFUSED_HEIGHT 17u /* Is the new stack at most 256 letters? [0] */
 
@@ -165,7 +168,7 @@ extern "C" {
 uint32_t pushdown_version(void);
 
 /*
- * Reads a game file: questions 1 to 9.
+ * Reads a game file: questions 1 to 9 and 19.
  *
  * file  bytes, any number of them; not written.
  * out   PUSHDOWN_READ_WORDS words; what they held does not matter. After
@@ -175,7 +178,7 @@ uint32_t pushdown_version(void);
 uint32_t pushdown_read(const uint8_t *file, size_t file_len, uint64_t *out, size_t out_len);
 
 /*
- * Solves a game file: questions 1 to 12.
+ * Solves a game file: questions 1 to 9 and 19, then 10 to 12.
  *
  * file   bytes, any number of them; not written.
  * table  words, three an entry; what they held does not matter. After
@@ -195,7 +198,7 @@ uint32_t pushdown_solve(const uint8_t *file, size_t file_len, uint32_t *table, s
                         size_t work_len, uint64_t *out, size_t out_len);
 
 /*
- * Judges a position over a table: questions 1 to 9, then 13, 14, 15.
+ * Judges a position over a table: questions 1 to 9 and 19, then 13, 14, 15.
  *
  * file      bytes, any number of them; not written.
  * table     words, three an entry, unused entries (all zero) last; not written.
@@ -211,7 +214,7 @@ uint32_t pushdown_judge(const uint8_t *file, size_t file_len, const uint32_t *ta
                         const uint8_t *position, size_t position_len, uint64_t *out, size_t out_len);
 
 /*
- * Plays a rule in a session: questions 1 to 9, then 14, 16, 17.
+ * Plays a rule in a session: questions 1 to 9 and 19, then 14, 16, 17.
  *
  * file     bytes, any number of them; not written.
  * session  PUSHDOWN_SESSION_BYTES bytes: control state, height (two bytes, lower

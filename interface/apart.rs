@@ -1,4 +1,4 @@
-//! Document 01 once more: reader, rounds, judge and move, written from its text and apart from the library, plainly and without
+//! Document 01 once more, with the requests of document 02 that landed: reader, rounds, judge and move, written from its text and apart from the library, plainly and without
 //! regard to speed. The interface test holds the library to it.
 //!
 //! Leaves out: everything about buffers. Areas and their lengths are the test's matter (`main.rs`), as are words of results.
@@ -59,7 +59,7 @@ impl Game {
     }
 }
 
-/// Questions 1 to 9.
+/// The file's questions: 1 to 9 of document 01, and 19 of document 02 right after 2.
 pub fn read(file: &[u8]) -> Result<Game, Refusal> {
     if file.is_empty() || file.len() > MAX_FILE {
         return refuse(1, 0);
@@ -79,7 +79,7 @@ pub fn read(file: &[u8]) -> Result<Game, Refusal> {
             _ => return refuse(2, at),
         };
         if at + length > file.len() {
-            return refuse(2, at);
+            return refuse(19, at);
         }
         let command = &file[at..at + length];
         if (command[0] == 0x01) != (at == 0) {
@@ -369,7 +369,7 @@ fn run_worth(below: &[Option<u64>], (birthdate, set): (u32, Set)) -> Option<u64>
     Some((1u64 << birthdate) - 1 + largest)
 }
 
-/// Questions 1 to 9 and 13 to 15, and the verdict.
+/// The file's questions and 13 to 15, and the verdict.
 pub fn judge(file: &[u8], table: &[u32], position: &[u8]) -> Result<Verdict, Refusal> {
     let game = read(file)?;
     let entries = table_of(&game, table)?;
@@ -406,7 +406,7 @@ pub struct Session {
     pub cells: Vec<u8>,
 }
 
-/// Questions 1 to 9, 14, 16 and 17, and the session after the move.
+/// The file's questions, 14, 16 and 17, and the session after the move.
 pub fn play(file: &[u8], session: &Session, rule: u32) -> Result<Session, Refusal> {
     let game = read(file)?;
     if session.height < 1 || session.height > MAX_STACK {

@@ -1,8 +1,8 @@
 //! The interface test: libpushdown.a held against an implementation of document 01 written apart (`apart.rs`), through the four
 //! functions of the C interface, for every word and byte that they return, leave or must not touch.
 //!
-//! What is tried: the samples of document 01 and its edges; every cut of every sample file; seeded damages of the sample files;
-//! seeded small and wide games. Each file goes through every function, with tables from the solver, damaged tables and garbage,
+//! What is tried: the samples of document 01 and its edges; every cut of every sample file; files that end within a command or have an
+//! unknown one, with what document 02 states of them; seeded damages of the sample files; seeded small and wide games. Each file goes through every function, with tables from the solver, damaged tables and garbage,
 //! positions and sessions in form and damaged, rule numbers in and out of range, areas of good and of wrong lengths. Every call
 //! is made twice. What was in an area before is garbage.
 //!
@@ -39,7 +39,7 @@ const SEED: u64 = 20_240_601;
 struct Test {
     calls: Calls,
     random: Random,
-    /// Files that passed questions 1 to 9, and those that were solved with 64 entries.
+    /// Files that passed the file's questions, and those that were solved with 64 entries.
     accepted: u64,
     solved: u64,
     /// Wide games that were solved with 512 entries.
@@ -243,6 +243,37 @@ fn edges(sample: &[u8]) -> Vec<Vec<u8>> {
     files
 }
 
+/// What document 02 states of files that have no whole command at some offset: 2 for an unknown byte, whatever comes after it,
+/// and 19 for a known command that the end cuts after any of its bytes, also a second 01, and operands out of range.
+fn unread(sample: &[u8]) -> Vec<(Vec<u8>, Refusal)> {
+    let at = sample.len() - 1;
+    let ending = |bytes: &[u8]| [&sample[..at], bytes].concat();
+    let mut files = vec![];
+    for byte in [0x00, 0x06, 0x44, 0x80, 0xFE] {
+        files.push((ending(&[byte]), Refusal { number: 2, place: at as u64 }));
+        files.push((ending(&[byte, 1, 1, 1, 1, 1, 1, 0xFF]), Refusal { number: 2, place: at as u64 }));
+    }
+    for (code, length) in [(0x01, 4), (0x02, 2), (0x03, 2), (0x04, 7), (0x05, 7)] {
+        let command = [code, 99, 99, 99, 99, 99, 99];
+        for cut in 1..length {
+            files.push((ending(&command[..cut]), Refusal { number: 19, place: at as u64 }));
+        }
+    }
+    // As many bytes as commands that pass can have, then a command that the end cuts, as far as it can be: the longest such file.
+    let mut full = vec![0x01, 4, 32, 64];
+    for head in 0..=255 {
+        full.extend([0x04, head / 64, head % 64, 0, 1, head % 64, 0, 0x05, head / 64, head % 64, 0x10, 0, 0, 0]);
+    }
+    full.extend((0..32).flat_map(|state| [if state < 4 { 0x02 } else { 0x03 }, state]));
+    let at = full.len();
+    for (length, number, place) in [(at + 1, 19, at), (at + 6, 19, at), (at + 7, 4, at), (4096, 4, at), (4097, 1, 0)] {
+        let mut file = full.clone();
+        file.resize(length, 0x04);
+        files.push((file, Refusal { number, place: place as u64 }));
+    }
+    files
+}
+
 /// Numbers, and how often each came.
 fn counts<N: std::fmt::Display>(counted: &BTreeMap<N, u64>) -> String {
     let words: Vec<String> = counted.iter().map(|(number, count)| format!("{number}: {count}")).collect();
@@ -297,6 +328,7 @@ fn main() -> ExitCode {
     }
     let refused = apart::solve(&samples[4], LONGEST, LONGEST).map(|_| ());
     assert_eq!(refused, Err(Refusal { number: 12, place: 41 }), "document 01 states it of 41 letters");
+    let unread_files = unread(&samples[0]);
     let mut files = 0;
     let mut cuts = 0;
     for (index, file) in samples.iter().enumerate() {
@@ -310,6 +342,11 @@ fn main() -> ExitCode {
     for file in &edge_files {
         test.file(file, &games[0], &tables[0]);
         test.solve(file, LONGEST, LONGEST, SOLVE_WORDS);
+        files += 1;
+    }
+    for (file, refusal) in &unread_files {
+        assert_eq!(apart::read(file).map(|_| ()), Err(*refusal), "document 02 states it");
+        test.file(file, &games[0], &tables[0]);
         files += 1;
     }
     for number in 0..damages {
@@ -332,10 +369,11 @@ fn main() -> ExitCode {
     }
 
     println!(
-        "files {files}: samples {}, cuts {cuts}, edges {}, damages {damages}, small games {small_games}, wide games \
+        "files {files}: samples {}, cuts {cuts}, edges {}, unread {}, damages {damages}, small games {small_games}, wide games \
          {wide_games}; seed {SEED}",
         samples.len(),
-        edge_files.len()
+        edge_files.len(),
+        unread_files.len()
     );
     println!(
         "read {} of them, solved {} with {} entries; of the wide games {} with {}",

@@ -17,7 +17,7 @@ use hashed::Hashed;
 use numbering::Numbering;
 use rounds::{take_rounds, Entry};
 
-/// Questions 1 to 9, 11 and 12, and every word of the table. Its length, question 10, is the caller's matter.
+/// The file's questions, 11 and 12, and every word of the table. Its length, question 10, is the caller's matter.
 pub fn solve(file: &[u8], table: &mut [u32]) -> Answer {
     table.fill(0);
     let game = read(file)?;

@@ -20,7 +20,7 @@ use crate::answer::{refuse, Answer};
 use crate::library::MAX_TABLE;
 use reader::Game;
 
-/// All that `pushdown_solve` answers: questions 1 to 12, every word of the table, and a work area of zeros.
+/// All that `pushdown_solve` answers: questions 1 to 12 and 19, every word of the table, and a work area of zeros.
 pub fn solve(file: &[u8], table: &mut [u32], work: &mut [u32]) -> Answer {
     work.fill(0);
     let answer = solve_into(file, table, work.len());

@@ -1,4 +1,4 @@
-//! Questions 1 to 9 without a heap: the game of a file in arrays of fixed length.
+//! The file's questions, 1 to 9 and 19, without a heap: the game of a file in arrays of fixed length.
 
 use crate::answer::{refuse, Refusal};
 use crate::reader::{keeps_bottom, set_of, Rule, MAX_FILE, MAX_OF_A_KIND};
@@ -69,7 +69,7 @@ pub fn read(file: &[u8], game: &mut Game) -> Result<(), Refusal> {
             _ => return refuse(2, at),
         };
         let Some(command) = file.get(at..at + length) else {
-            return refuse(2, at);
+            return refuse(19, at);
         };
         if (command[0] == 0x01) != (at == 0) {
             return refuse(3, at);

@@ -25,7 +25,8 @@ static const char *cause(uint32_t number)
 {
     switch (number) {
     case PUSHDOWN_REFUSED_FILE_LENGTH: return "the file has not 1 to 4096 bytes";
-    case PUSHDOWN_REFUSED_COMMAND: return "a command that is unknown or cut";
+    case PUSHDOWN_REFUSED_COMMAND: return "an unknown command";
+    case PUSHDOWN_REFUSED_CUT: return "the file ends within a command";
     case PUSHDOWN_REFUSED_FIRST: return "01 is not first, or not only there";
     case PUSHDOWN_REFUSED_OPERAND: return "an operand out of range";
     case PUSHDOWN_REFUSED_BOTTOM: return "a rule that does not keep the bottom";

@@ -25,13 +25,15 @@ pub const MAX_RULES: u32 = 256;
 /// The most words of a table.
 pub const MAX_TABLE: usize = 3 * 2048;
 
-/// The question that was answered no, in the order of the numbers 1 to 17.
+/// The question that was answered no, in the order in which the questions are put.
 #[derive(Clone, Copy, Debug, PartialEq, Eq)]
 pub enum Question {
     /// 1. Has the file 1 to 4,096 bytes?
     FileLength,
-    /// 2. Is the command known, with all its operands?
+    /// 2. Is the command byte known?
     Command,
+    /// 19. Has the command all its operands before the file's end? Put right after 2.
+    Cut,
     /// 3. Is 01 the first command, and only there?
     First,
     /// 4. Are operands in range?
@@ -71,6 +73,7 @@ impl Question {
         match number {
             1 => Question::FileLength,
             2 => Question::Command,
+            19 => Question::Cut,
             3 => Question::First,
             4 => Question::Operand,
             5 => Question::Bottom,

@@ -1,5 +1,7 @@
-// A cut game file: every cut of every sample file, from no byte to all but the last, is refused by reader, solver, judge and move
-// with one question and place. These are worked out here by a walk of their own, from document 01.
+// A cut game file, told from one with an unknown command: every cut of every sample file, from no byte to all but the last, is
+// refused by reader, solver, judge and move with one question and place, 19 where it ends within a command; and with an unknown byte
+// in the place of a command's own the file is refused by 2 at that command, whole and where it ends with that byte. The question and
+// the place are worked out here by a walk of their own, from documents 01 and 02.
 //
 // It leaves out files damaged in another way.
 use crate::refusals::Refusal;
@@ -15,24 +17,35 @@ use script::byte_at;
 use script::fill;
 use script::front;
 use script::is_zero;
+use script::put;
+use script::up;
 use session::play_move;
 use solver::solve;
 
 // What the areas hold before each call.
 const BEFORE: u32 = 4294967295;
 
+// A byte that is no command.
+const UNKNOWN: u8 = 254;
+
 pub fn every_file(file: &mut [u8], table: &mut [u32], work: &mut [u32]) -> Tally {
     let mut t = Tally::none();
     let mut i = 0;
     while i < FILES {
         let size = put_sample(file, file_sample(i));
-        t = t.with(one_file(i, front(file, size), table, work));
+        t = t.with(one_file(i, file, size, table, work));
         i += 1;
     }
     t
 }
 
-fn one_file(i: usize, file: &[u8], table: &mut [u32], work: &mut [u32]) -> Tally {
+// Both lines of one file.
+fn one_file(i: usize, file: &mut [u8], size: usize, table: &mut [u32], work: &mut [u32]) -> Tally {
+    let t = cut_file(i, front(file, size), table, work);
+    t.with(unknown_file(i, file, size, table, work))
+}
+
+fn cut_file(i: usize, file: &[u8], table: &mut [u32], work: &mut [u32]) -> Tally {
     let t = every_cut(file, table, work);
     with_whole(t, i, file)
 }
@@ -42,8 +55,82 @@ fn with_whole(t: Tally, i: usize, file: &[u8]) -> Tally {
     let line = name_after(file_sample(i), Line::new().word(b"cut file, "))
         .word(b": ")
         .number(file.len() as u64)
-        .word(b" cuts, refused by reader, solver, judge and move as document 01 asks");
+        .word(b" cuts, ")
+        .number(expecting(file, 19) as u64)
+        .word(b" within a command (19), refused by reader, solver, judge and move alike");
     t.held(is_read(file)).end(line)
+}
+
+// How many cuts of a file a question is expected of: 19 of those that end within a command, 8 of those that end with one.
+fn expecting(file: &[u8], question: u8) -> usize {
+    let mut count = 0;
+    let mut n = 0;
+    while n < file.len() {
+        if expected(file, n).question == question {
+            count = up(count);
+        }
+        n += 1;
+    }
+    count
+}
+
+// Each command of a file in turn with an unknown byte in the place of its own.
+fn unknown_file(
+    i: usize,
+    file: &mut [u8],
+    size: usize,
+    table: &mut [u32],
+    work: &mut [u32],
+) -> Tally {
+    let t = every_command(file, size, table, work);
+    with_unknown(t, i, front(file, size))
+}
+
+// The line for it. Every command but the last, FF, ends a cut.
+fn with_unknown(t: Tally, i: usize, file: &[u8]) -> Tally {
+    let line = name_after(file_sample(i), Line::new().word(b"unknown command, "))
+        .word(b": ")
+        .number(up(expecting(file, 8)) as u64)
+        .word(b" in turn, whole and cut, refused by reader, solver, judge and move alike (2)");
+    t.end(line)
+}
+
+fn every_command(file: &mut [u8], size: usize, table: &mut [u32], work: &mut [u32]) -> Tally {
+    let mut t = Tally::none();
+    let mut at = 0;
+    while at < size {
+        let bytes = command_size(byte_at(file, at));
+        if bytes == 0 {
+            return t.held(false);
+        }
+        if size - at < bytes {
+            return t.held(false);
+        }
+        t = t.with(one_command(file, at, size, table, work));
+        at += bytes;
+    }
+    t
+}
+
+// One command unknown. The file is as it was afterwards.
+fn one_command(
+    file: &mut [u8],
+    at: usize,
+    size: usize,
+    table: &mut [u32],
+    work: &mut [u32],
+) -> Tally {
+    let code = byte_at(file, at);
+    put(file, at, UNKNOWN);
+    let t = unknown_at(file, at, size, table, work);
+    put(file, at, code);
+    t
+}
+
+// The whole file, and the file up to the unknown byte.
+fn unknown_at(file: &[u8], at: usize, size: usize, table: &mut [u32], work: &mut [u32]) -> Tally {
+    let t = refused_alike(Refusal::new(2, at), front(file, size), table, work);
+    t.with(refused_alike(Refusal::new(2, at), front(file, up(at)), table, work))
 }
 
 fn is_read(file: &[u8]) -> bool {
@@ -54,14 +141,14 @@ fn every_cut(file: &[u8], table: &mut [u32], work: &mut [u32]) -> Tally {
     let mut t = Tally::none();
     let mut n = 0;
     while n < file.len() {
-        t = t.with(one_cut(expected(file, n), front(file, n), table, work));
+        t = t.with(refused_alike(expected(file, n), front(file, n), table, work));
         n += 1;
     }
     t
 }
 
 // What the first n bytes of a file are refused with. No cut of a file that is read as a whole holds FF, which is its last
-// byte, and questions 3 to 7 are answered yes for each of its commands. So only a missing operand is met, or the end.
+// byte, and questions 2 to 7 are answered yes for each of its commands. So only a missing operand is met, or the end.
 fn expected(file: &[u8], n: usize) -> Refusal {
     if n == 0 {
         return Refusal::new(1, 0);
@@ -73,7 +160,7 @@ fn expected(file: &[u8], n: usize) -> Refusal {
             return Refusal::new(2, at);
         }
         if n - at < size {
-            return Refusal::new(2, at);
+            return Refusal::new(19, at);
         }
         at += size;
     }
@@ -91,8 +178,8 @@ fn command_size(code: u8) -> usize {
     }
 }
 
-// One cut: five tries.
-fn one_cut(expected: Refusal, cut: &[u8], table: &mut [u32], work: &mut [u32]) -> Tally {
+// A file that is refused, by all with the same question and place: five tries.
+fn refused_alike(expected: Refusal, cut: &[u8], table: &mut [u32], work: &mut [u32]) -> Tally {
     let t = same(Tally::none(), b"reader", cut, expected, reader_on(cut));
     let t = same(t, b"move", cut, expected, move_on(cut));
     over_areas(t, expected, cut, table, work)

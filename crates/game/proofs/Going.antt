@@ -1,20 +1,20 @@
 -- The walk of `Game::read` as one equation: reading the whole file is the walk from here with the game so far.
 use Prim.Native.Nat.{ℕ, zero, suc, _+_, _*_, _-_, _<_, _≤_}
 use mathlib.Core.Path.{_≡_, refl, sym, ap, _∙_}
-use mathlib.Core.Logic.{_⊎_, inl, inr, ⊎-elim}
-use mathlib.Core.Bool.{Bool, true, false, cond}
+use mathlib.Core.Logic.{_⊎_, inl, ⊎-elim}
+use mathlib.Core.Bool.{Bool}
 use mathlib.Core.List.{List, [], _∷_}
 use native.Mathlib.Omega.{arith}
-use lib.ListN.{length, getD}
-use lib.Dec.{eqb, ltb}
-use borrow.Author.Tests.{lt-ltb, le-ltb, eq-eqb, ne-eqb, eqb-true}
+use lib.ListN.{length}
+use borrow.Author.Tests.{lt-ltb, le-ltb, ne-eqb}
 use types.Run.{OneOf, miss}
 use denote.Enum.Declared.{tagOf}
 use Rattle.game.specs.Limits.{maxControl, maxStates, maxLetters, maxRules, maxTargets, ruleStride, targetStride}
 use Rattle.game.specs.Game.{PushdownGame, emptyGame}
-use Rattle.game.specs.Outcome.{Outcome, done, refused}
-use Rattle.game.specs.Command.{whole, setOf, decoded, commandAt}
-use Rattle.game.specs.Questions.{ask, Room, add, everyHead, ending, taken, met, walk, reading}
+use Rattle.game.specs.Outcome.{Outcome, refused}
+use Rattle.game.specs.Command.{commandAt}
+use Rattle.game.specs.CommandLaws.{found-to, some-bytes}
+use Rattle.game.specs.Questions.{ask, askFound, Room, add, everyHead, ending, taken, met, walk, reading}
 use Rattle.game.specs.Stored.{sizesOf}
 use Rattle.game.specs.Parts.{Parts, Fit, rules-room, targets-room}
 use Rattle.game.specs.Marks.{Filtered}
@@ -56,42 +56,7 @@ unfolding walk
 turned zero file at g h l = absurd (omega arith)
 turned (suc m) file at g h l = (m, refl, rw (lt-ltb at (length file) h))
 
--- a command with the offset after it: that is further on
-record Forward (at : ℕ) (found : Found) : Type 0 where
-  ahead : (command : Command) (next : ℕ) → found ≡ Next command next → at < next
-
-either : (at : ℕ) (b : Bool) (x y : Found) → Forward at x → Forward at y → Forward at (cond b x y)
-either at true x y f g = f
-either at false x y f g = g
-
-missing : (at : ℕ) → Forward at Missing
-missing at = record { ahead = λ command next e. absurd (let z : _≡_ {A = ℕ} 0 1 = cc in omega arith) }
-
-unknown : (at : ℕ) → Forward at Unknown
-unknown at = record { ahead = λ command next e. absurd (let z : _≡_ {A = ℕ} 0 1 = cc in omega arith) }
-
-sized : (file : List ℕ) (at n : ℕ) (command : Command) → Forward at (whole file at (suc n) command)
-unfolding whole
-sized file at n command =
-    either at (ltb (length file - at) (suc n)) Missing (Next command (at + suc n)) (missing at)
-    (record { ahead = λ c next e. let s : at + suc n ≡ next = cc in omega arith })
-
-by-code : (code : ℕ) (file : List ℕ) (at : ℕ) → Forward at (decoded code file at)
-unfolding decoded
-by-code code file at =
-    let o : ℕ → ℕ = λ i. getD file (at + i) 0 in
-    either at (eqb code 1) _ _ (sized file at 3 (SizesAre (o 1) (o 2) (o 3)))
-    (either at (eqb code 2) _ _ (sized file at 1 (Abelard (o 1)))
-    (either at (eqb code 3) _ _ (sized file at 1 (Final (o 1)))
-    (either at (eqb code 4) _ _ (sized file at 6 (Rule (o 1) (o 2) (o 3) (o 4) (o 5) (o 6)))
-    (either at (eqb code 5) _ _ (sized file at 6 (Target (o 1) (o 2) (setOf (o 3) (o 4) (o 5) (o 6))))
-    (either at (eqb code 255) _ _ (sized file at 0 End) (unknown at))))))
-
-forward : (file : List ℕ) (at : ℕ) → Forward at (commandAt file at)
-unfolding commandAt
-forward file at = either at (ltb at (length file)) _ _ (by-code (getD file at 0) file at) (missing at)
-
-no-command : (size at : ℕ) (g : PushdownGame) (found : Found) (rest : ℕ → PushdownGame → Outcome PushdownGame) → OneOf (1 ∷ 2 ∷ []) (tagOf FoundIs.the-type found) → met size at g found rest ≡ refused 2 at
+no-command : (size at : ℕ) (g : PushdownGame) (found : Found) (rest : ℕ → PushdownGame → Outcome PushdownGame) → OneOf (1 ∷ 2 ∷ []) (tagOf FoundIs.the-type found) → met size at g found rest ≡ refused (askFound found) at
 unfolding met
 no-command size at g (Next command next) rest h = absurd (miss (1 ∷ 2 ∷ []) 0 tt h)
 no-command size at g Missing rest h = refl
@@ -114,8 +79,8 @@ module _ (file : List ℕ) (sizes : Sizes) (rules targets marks : List ℕ) (at 
   turn : (m : ℕ) × (going .turns ≡ suc m) × (walk (going .turns) file at (going .so) ≡ met (length file) at (going .so) (commandAt file at) (walk m file))
   turn = turned (going .turns) file at (going .so) inside (going .enough)
 
-  -- 2 is answered no
-  pub stops : (found : Found) → found ≡ commandAt file at → OneOf (1 ∷ 2 ∷ []) (tagOf FoundIs.the-type found) → reading file ≡ refused 2 at
+  -- 2 or 19 is answered no
+  pub stops : (found : Found) → found ≡ commandAt file at → OneOf (1 ∷ 2 ∷ []) (tagOf FoundIs.the-type found) → reading file ≡ refused (askFound found) at
   stops found e h =
       going .same
       ∙ turn .2
@@ -152,7 +117,7 @@ module _ (file : List ℕ) (sizes : Sizes) (rules targets marks : List ℕ) (at 
 
   module _ (command : Command) (next : ℕ) (found : commandAt file at ≡ Next command next) where
     pub further : at < next
-    further = forward file at .ahead command next found
+    further = omega (arith, found-to file at command next found, some-bytes command)
 
     -- one of 3 to 7 is answered no
     pub refuses : (number : ℕ) → number ≡ ask (going .so) command → (number ≡ 0 → ⊥) → reading file ≡ refused number at

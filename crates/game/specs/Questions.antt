@@ -1,5 +1,6 @@
--- Questions 1 to 9 of document 01. "The first 'no' gives the number. The place follows in brackets. For 2 to 7 it is the
--- command's offset, and commands are walked in order with all these questions put to each."
+-- Questions 1 to 9 of document 01, with 19 of document 02. "The first 'no' gives the number. The place follows in brackets. For 2 to 7
+-- it is the command's offset, and commands are walked in order with all these questions put to each." 19 is "put right after 2, with the
+-- command's offset".
 use Prim.Native.Nat.{ℕ, zero, suc, _+_, _<_}
 use mathlib.Core.Bool.{Bool, true, false, cond, not, _&&_, _||_}
 use mathlib.Core.List.{List, [], _∷_, _++_}
@@ -195,7 +196,14 @@ everyHead control letters rules = allBelow control (λ p. everyLetter letters p 
 unfoldable pub ending : ℕ → ℕ → PushdownGame → Outcome PushdownGame
 ending size at g = cond (eqb (at + 1) size) (cond (everyHead (g .control) (g .letters) (g .rules)) (done g) (refused 9 at)) (refused 8 at)
 
--- a command that passed 2 to 7: the walk stops at FF, and goes on after any other
+-- Questions 2 and 19 put to what stands at an offset: 0, or the number of the one that is answered no. "2 means an unknown command byte
+-- only. 19 when a known command's operands run past the end of the file": never both.
+unfoldable pub askFound : Found → ℕ
+askFound (Next command next) = 0
+askFound Missing = 19
+askFound Unknown = 2
+
+-- a command that passed 2, 19 and 3 to 7: the walk stops at FF, and goes on after any other
 unfoldable pub taken : ℕ → ℕ → PushdownGame → Command → Outcome PushdownGame → Outcome PushdownGame
 taken size at g (Sizes p s l) rest = rest
 taken size at g (Abelard p) rest = rest
@@ -204,10 +212,10 @@ taken size at g (RuleIs p a q k b c) rest = rest
 taken size at g (Target q a set) rest = rest
 taken size at g End rest = ending size at g
 
--- 2. Is the command known, with all its operands? Then 3 to 7. `rest` is the walk after it.
+-- 2. Is the command known? 19. Has it all its operands? Then 3 to 7. `rest` is the walk after it.
 unfoldable pub met : ℕ → ℕ → PushdownGame → Found → (ℕ → PushdownGame → Outcome PushdownGame) → Outcome PushdownGame
-met size at g Missing rest = refused 2 at
-met size at g Unknown rest = refused 2 at
+met size at g Missing rest = refused (askFound Missing) at
+met size at g Unknown rest = refused (askFound Unknown) at
 met size at g (Next command next) rest =
     let number = ask g command in
     let after = rest next (add g command) in

@@ -63,7 +63,7 @@ first (Target q a set) h = absurd (impossible h)
 first End h = absurd (impossible h)
 
 -- the game after an accepted 01
-opened : (p s l : ℕ) → sizesInRange p s l ≡ true → Ranged (add emptyGame (Sizes p s l))
+pub opened : (p s l : ℕ) → sizesInRange p s l ≡ true → Ranged (add emptyGame (Sizes p s l))
 unfolding sizesInRange add Numbered
 opened p s l h =
     let f = both _ _ h in

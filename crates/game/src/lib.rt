@@ -1,5 +1,5 @@
-// Reading a game file: the limits and the game, the command reader, questions 1 to 9 of document 01, and the form of
-// a position (question 14).
+// Reading a game file: the limits and the game, the command reader, the file's questions (1 to 9 of document 01, and 19 of document
+// 02, which is put right after 2), and the form of a position (question 14).
 //
 // It leaves out tables, judging, moving and solving, which stand in crates above this one.
 mod command;

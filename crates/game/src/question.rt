@@ -1,5 +1,6 @@
-// Questions 3 to 7, put to one command after the game so far, and question 9.
+// Questions 2 and 19, put to what stands at an offset; 3 to 7, put to one command after the game so far; and question 9.
 use crate::command::Command;
+use crate::command::Found;
 use crate::filter::head_slot;
 use crate::filter::is_marked;
 use crate::filter::mark;
@@ -34,11 +35,23 @@ ghost use Rattle.game.specs.Questions.{
   sameTarget,
   isNew,
   hasRoom,
+  askFound,
   ask,
   any,
   allBelow,
   everyHead,
 };
+
+// Questions 2 and 19: 0 for a whole command, or the number of the one that is answered no.
+pub fn ask_found(found: Found) -> u8
+    ensures { λ r. ⌜ r ≡ askFound found ⌝ }
+{
+    match found {
+        Found::Next(_, _) => 0,
+        Found::Missing => 19,
+        Found::Unknown => 2,
+    }
+}
 
 // Questions 3 to 7: 0, or the number of the first that is answered no.
 pub fn ask_command(

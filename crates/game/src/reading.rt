@@ -1,4 +1,4 @@
-// Reading a game file: questions 1 to 9, and the game.
+// Reading a game file: the file's questions, 1 to 9 and 19, and the game.
 use crate::command::Command;
 use crate::command::Found;
 use crate::game::Answer;
@@ -6,6 +6,7 @@ use crate::game::Game;
 use crate::game::Reading;
 use crate::game::Sizes;
 use crate::question::ask_command;
+use crate::question::ask_found;
 use crate::question::is_every_head;
 use crate::reader::read_command;
 ghost use mathlib.Core.Path.{_≡_};
@@ -37,7 +38,7 @@ impl Game {
         while at < file.len() {
             let found = read_command(file, at);
             let Found::Next(command, next) = found else {
-                return refuse(2, at);
+                return refuse(ask_found(found), at);
             };
             let number = ask_command(sizes, &rules, &targets, &marks, command);
             if number != 0 {

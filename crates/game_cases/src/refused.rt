@@ -24,7 +24,7 @@ pub fn cuts(t: Tally, file: &[u8], start: usize, end: usize) -> Tally {
     let mut tally = t;
     let mut n = up(start);
     while n < end {
-        tally = refused(tally, front(file, n), 2, start);
+        tally = refused(tally, front(file, n), 19, start);
         n += 1;
     }
     refused(tally, front(file, end), 8, end)

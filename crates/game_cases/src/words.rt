@@ -14,7 +14,7 @@
 //
 // Words that are cases:
 //   no QUESTION PLACE    the file is refused so, and the game handed out is all zero
-//   cuts START END       the same for the file's first bytes: 2 at START for each number of them between, 8 at END for END
+//   cuts START END       the same for the file's first bytes: 19 at START for each number of them between, 8 at END for END
 //   bytes LOW HIGH QUESTION PLACE   the same with each of these numbers as its last byte
 //   game P S L A F R T   it is accepted: sizes, Abelard's states, finals, numbers of rules and of target transitions
 //   rules START          the rules are those from START on, one after the other in the file, and zeros after them

@@ -1,4 +1,4 @@
-// Judging a position over a table: questions 1 to 9, 13 and 14, then the verdict with 15.
+// Judging a position over a table: the file's questions, 13 and 14, then the verdict with 15.
 use crate::verdict::Verdict;
 use crate::verdict::verdict_on;
 use game::Answer;

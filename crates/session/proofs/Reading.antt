@@ -27,7 +27,7 @@ not-done (done g) (Refused question place) s n e t = absurd (let z : _≡_ {A = 
 not-done (refused number place) (Refused q p) s n e t = ap (λ (o : Outcome (Unit {0})). record { answer = o; session = s }) e
 
 module _ (file : List ℕ) (r : Reading) (told : Reports (reading file) r) where
-  -- one of 1 to 9 is answered no
+  -- one of the file's questions is answered no
   pub unread : (s : Session) (n : ℕ) → OneOf (1 ∷ []) (tagOf AnswerIs.the-type (r .answer)) → left (r .answer) s ≡ move file s n
   unfolding move
   unread s n t = not-done (reading file) (r .answer) s n (told .answers) t

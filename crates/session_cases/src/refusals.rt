@@ -16,7 +16,7 @@ pub fn every_refusal(t: Tally, a: &[u8], c: &[u8]) -> Tally {
     too_high(t, c)
 }
 
-// 1, and 2 to 9 in a session that could be played.
+// 1, and 2 to 9 with 19 in a session that could be played.
 fn refused_lengths(t: Tally) -> Tally {
     let s = of(0, 1, [0, 3, 3, 3], 3);
     let long = [1u8; Game::MAX_FILE + 1];
@@ -29,7 +29,7 @@ fn refused_lengths(t: Tally) -> Tally {
 fn refused_files(t: Tally) -> Tally {
     let s = of(0, 1, [0, 3, 3, 3], 3);
     let t = t.refuses(b"\x09", s, 0, 2, 0);
-    let t = t.refuses(b"\x01\x01", s, 0, 2, 0);
+    let t = t.refuses(b"\x01\x01", s, 0, 19, 0);
     let t = t.refuses(b"\xff", s, 0, 3, 0);
     let t = t.refuses(b"\x01\x00\x02\x01\xff", s, 0, 4, 0);
     let t = t.refuses(

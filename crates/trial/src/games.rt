@@ -1,4 +1,4 @@
-// Random small games: 1 to 3 control states, 1 or 2 further ones, 2 to 4 letters. They pass questions 1 to 9: every head has a
+// Random small games: 1 to 3 control states, 1 or 2 further ones, 2 to 4 letters. They pass the file's questions: every head has a
 // rule, no rule removes the bottom, and no command is equal to another, by the way they are chosen.
 //
 // A choice depends on the game's number and on a number of its own alone, so a game can be made again from its number.

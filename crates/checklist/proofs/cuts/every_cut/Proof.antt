@@ -25,8 +25,8 @@ expected-requires c κs = search needs
 front-requires : tie.Need-front-requires Inv-loop μ-loop
 front-requires c κs = search needs
 
-one-cut-requires : tie.Need-one-cut-requires Inv-loop μ-loop
-one-cut-requires c κs = search needs
+refused-alike-requires : tie.Need-refused-alike-requires Inv-loop μ-loop
+refused-alike-requires c κs = search needs
 
 with-requires : tie.Need-with-requires Inv-loop μ-loop
 with-requires c κs = search needs
@@ -59,7 +59,7 @@ every-cut-spec =
     loop-holds
     expected-requires
     front-requires
-    one-cut-requires
+    refused-alike-requires
     with-requires
     add-n
     loop-less

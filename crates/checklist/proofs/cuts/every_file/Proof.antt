@@ -25,9 +25,6 @@ file-sample-requires c κs = search needs
 put-sample-requires : tie.Need-put-sample-requires Inv-loop μ-loop
 put-sample-requires c κs = search needs
 
-front-requires : tie.Need-front-requires Inv-loop μ-loop
-front-requires c κs = search needs
-
 one-file-requires : tie.Need-one-file-requires Inv-loop μ-loop
 one-file-requires c κs = search needs
 
@@ -65,7 +62,6 @@ every-file-spec =
     loop-holds
     file-sample-requires
     put-sample-requires
-    front-requires
     one-file-requires
     with-requires
     add-i

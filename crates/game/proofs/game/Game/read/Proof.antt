@@ -47,11 +47,19 @@ read-command-requires c κs = search needs
 enum-known-found : tie.Need-enum-known-found Inv-loop μ-loop
 enum-known-found c = search needs
 
+ask-found-requires : tie.Need-ask-found-requires Inv-loop μ-loop
+ask-found-requires c κs = search needs
+
 refuse-requires-3 : tie.Need-refuse-requires-3 Inv-loop μ-loop
 refuse-requires-3 c κs = search needs
 
 returns-3 : tie.Need-returns-3 Inv-loop μ-loop
-returns-3 c = rw (stops _ _ _ _ _ _ (c .before .before .before .before .loop .inv) (c .before .before .before .loop-test .taken) _ (c .before .before .read-command .ensures) (c .before .match .keys2)) (c .refuse3 .ensures)
+returns-3 c =
+    let at-match = c .before .before in
+    let at-turn = at-match .before .before in
+    rw
+    (stops _ _ _ _ _ _ (at-turn .before .loop .inv) (at-turn .loop-test .taken) _ (at-match .before .read-command .ensures) (at-match .match .keys2), ← c .before .ask-found .ensures)
+    (c .refuse3 .ensures)
 
 slice-aggregate-ask-command : tie.Need-slice-aggregate-ask-command Inv-loop μ-loop
 slice-aggregate-ask-command c = sym (rules-whole _ _ _ _ _ _ (c .before .before .before .before .before .before .loop .inv) (c .before .before .before .before .before .loop-test .taken))
@@ -118,6 +126,7 @@ read-spec =
     loop-holds
     read-command-requires
     enum-known-found
+    ask-found-requires
     refuse-requires-3
     returns-3
     slice-aggregate-ask-command
