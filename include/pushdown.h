@@ -101,8 +101,8 @@ extern "C" {
 
 /* The questions, in the order in which they are put; the place is in brackets.
  * Questions 2, 19 and 3 to 7 are put to each command before the next one is
- * looked at. 2 and 19 have two causes: a command that this library does not know,
- * by a newer linker for instance, and a file whose end is missing. */
+ * looked at. 2 is a command that this library does not know, as a newer linker
+ * may write it; 19 is a file whose end is missing. */
 
 /* Reading; every other function puts these first. */
 #define PUSHDOWN_REFUSED_FILE_LENGTH 1u /* Has the file 1 to 4,096 bytes? [0] */

@@ -1,5 +1,5 @@
-//! Document 01 once more, with the requests of document 02 that landed: reader, rounds, judge and move, written from its text and apart from the library, plainly and without
-//! regard to speed. The interface test holds the library to it.
+//! Document 01 once more, with the requests of document 02 that landed: reader, rounds, judge and move, written from their text and
+//! apart from the library, plainly and without regard to speed. The interface test holds the library to it.
 //!
 //! Leaves out: everything about buffers. Areas and their lengths are the test's matter (`main.rs`), as are words of results.
 
@@ -239,7 +239,7 @@ fn is_table_length(words: usize) -> bool {
     words % 3 == 0 && words >= 3 && words <= 3 * MAX_ENTRIES
 }
 
-/// Questions 1 to 12, with two areas of so many words.
+/// The file's questions and 10 to 12, with two areas of so many words.
 pub fn solve(file: &[u8], table: usize, work: usize) -> Result<Solved, Refusal> {
     let game = read(file)?;
     if table != work || !is_table_length(table) {

@@ -1,4 +1,4 @@
-//! One call of the library: made twice with equal arguments, and held against what document 01 says by the implementation
+//! One call of the library: made twice with equal arguments, and held against what documents 01 and 02 say by the implementation
 //! written apart. Counts calls and differences and keeps the digest of all results.
 
 use crate::apart::{self, Refusal, Verdict};
@@ -85,7 +85,7 @@ impl Calls {
                     self.differed[function] += 1;
                     if self.differed.iter().sum::<u64>() <= SHOWN {
                         println!("DIFFERENCE in {}: {}", NAMES[function], arguments());
-                        println!("  document 01: {expected:?}");
+                        println!("  demanded: {expected:?}");
                         println!("  first call:  {first:?}");
                         println!("  second call: {second:?}");
                         println!("  buffers that are not to be written kept: {first_kept}, {second_kept}");

@@ -1,10 +1,10 @@
-//! The interface test: libpushdown.a held against an implementation of document 01 written apart (`apart.rs`), through the four
-//! functions of the C interface, for every word and byte that they return, leave or must not touch.
+//! The interface test: libpushdown.a held against an implementation of documents 01 and 02 written apart (`apart.rs`), through the
+//! four functions of the C interface, for every word and byte that they return, leave or must not touch.
 //!
-//! What is tried: the samples of document 01 and its edges; every cut of every sample file; files that end within a command or have an
-//! unknown one, with what document 02 states of them; seeded damages of the sample files; seeded small and wide games. Each file goes through every function, with tables from the solver, damaged tables and garbage,
-//! positions and sessions in form and damaged, rule numbers in and out of range, areas of good and of wrong lengths. Every call
-//! is made twice. What was in an area before is garbage.
+//! What is tried: the samples of document 01 and its edges; every cut of every sample file; files that end within a command or have
+//! an unknown one, with what must be answered; seeded damages of the sample files; seeded small and wide games. Each file goes
+//! through every function, with tables from the solver, damaged tables and garbage, positions and sessions in form and damaged, rule
+//! numbers in and out of range, areas of good and of wrong lengths. Every call is made twice. What was in an area before is garbage.
 //!
 //!     interface [--damages N] [--exact]
 //!
@@ -243,8 +243,9 @@ fn edges(sample: &[u8]) -> Vec<Vec<u8>> {
     files
 }
 
-/// What document 02 states of files that have no whole command at some offset: 2 for an unknown byte, whatever comes after it,
-/// and 19 for a known command that the end cuts after any of its bytes, also a second 01, and operands out of range.
+/// Files that have no whole command at some offset, with what document 02 states of them: 2 for an unknown byte, whatever comes
+/// after it, and 19 for a known command that the end cuts after any of its bytes, also a second 01, and operands out of range. The
+/// last three are longer than such a file can be, and document 01 states their answer: 4 twice, and 1.
 fn unread(sample: &[u8]) -> Vec<(Vec<u8>, Refusal)> {
     let at = sample.len() - 1;
     let ending = |bytes: &[u8]| [&sample[..at], bytes].concat();
@@ -345,7 +346,7 @@ fn main() -> ExitCode {
         files += 1;
     }
     for (file, refusal) in &unread_files {
-        assert_eq!(apart::read(file).map(|_| ()), Err(*refusal), "document 02 states it");
+        assert_eq!(apart::read(file).map(|_| ()), Err(*refusal), "documents 01 and 02 state it");
         test.file(file, &games[0], &tables[0]);
         files += 1;
     }

@@ -103,7 +103,7 @@ impl fmt::Display for Question {
     }
 }
 
-/// A refusal: the question, and its place as document 01 puts it in brackets.
+/// A refusal: the question, and its place as the header puts it in brackets.
 #[derive(Clone, Copy, Debug, PartialEq, Eq)]
 pub struct Refused {
     pub question: Question,

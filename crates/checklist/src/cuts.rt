@@ -56,17 +56,17 @@ fn with_whole(t: Tally, i: usize, file: &[u8]) -> Tally {
         .word(b": ")
         .number(file.len() as u64)
         .word(b" cuts, ")
-        .number(expecting(file, 19) as u64)
-        .word(b" within a command (19), refused by reader, solver, judge and move alike");
+        .number(within(file) as u64)
+        .word(b" in a command (19), refused as asked by reader, solver, judge and move");
     t.held(is_read(file)).end(line)
 }
 
-// How many cuts of a file a question is expected of: 19 of those that end within a command, 8 of those that end with one.
-fn expecting(file: &[u8], question: u8) -> usize {
+// How many cuts of a file end within a command: those that 19 is expected of.
+fn within(file: &[u8]) -> usize {
     let mut count = 0;
     let mut n = 0;
     while n < file.len() {
-        if expected(file, n).question == question {
+        if expected(file, n).question == 19 {
             count = up(count);
         }
         n += 1;
@@ -82,16 +82,15 @@ fn unknown_file(
     table: &mut [u32],
     work: &mut [u32],
 ) -> Tally {
-    let t = every_command(file, size, table, work);
-    with_unknown(t, i, front(file, size))
+    with_unknown(every_command(file, size, table, work), i)
 }
 
-// The line for it. Every command but the last, FF, ends a cut.
-fn with_unknown(t: Tally, i: usize, file: &[u8]) -> Tally {
+// The line for it.
+fn with_unknown(t: Tally, i: usize) -> Tally {
     let line = name_after(file_sample(i), Line::new().word(b"unknown command, "))
         .word(b": ")
-        .number(up(expecting(file, 8)) as u64)
-        .word(b" in turn, whole and cut, refused by reader, solver, judge and move alike (2)");
+        .number(t.tried as u64)
+        .word(b" tries (2), refused as asked by reader, solver, judge and move");
     t.end(line)
 }
 
@@ -148,7 +147,7 @@ fn every_cut(file: &[u8], table: &mut [u32], work: &mut [u32]) -> Tally {
 }
 
 // What the first n bytes of a file are refused with. No cut of a file that is read as a whole holds FF, which is its last
-// byte, and questions 2 to 7 are answered yes for each of its commands. So only a missing operand is met, or the end.
+// byte, and questions 2 to 7 are answered yes for each whole command. So only a missing operand is met, or the end.
 fn expected(file: &[u8], n: usize) -> Refusal {
     if n == 0 {
         return Refusal::new(1, 0);
@@ -179,49 +178,49 @@ fn command_size(code: u8) -> usize {
 }
 
 // A file that is refused, by all with the same question and place: five tries.
-fn refused_alike(expected: Refusal, cut: &[u8], table: &mut [u32], work: &mut [u32]) -> Tally {
-    let t = same(Tally::none(), b"reader", cut, expected, reader_on(cut));
-    let t = same(t, b"move", cut, expected, move_on(cut));
-    over_areas(t, expected, cut, table, work)
+fn refused_alike(expected: Refusal, file: &[u8], table: &mut [u32], work: &mut [u32]) -> Tally {
+    let t = same(Tally::none(), b"reader", file, expected, reader_on(file));
+    let t = same(t, b"move", file, expected, move_on(file));
+    over_areas(t, expected, file, table, work)
 }
 
 // Solver and judge. A refused solve leaves no word in either area.
 fn over_areas(
     t: Tally,
     expected: Refusal,
-    cut: &[u8],
+    file: &[u8],
     table: &mut [u32],
     work: &mut [u32],
 ) -> Tally {
-    let t = same(t, b"solver", cut, expected, solver_on(cut, table, work));
+    let t = same(t, b"solver", file, expected, solver_on(file, table, work));
     let t = t.held(are_zero(table, work));
-    same(t, b"judge", cut, expected, judge_on(cut, table))
+    same(t, b"judge", file, expected, judge_on(file, table))
 }
 
 // One try: an answer is the expected refusal.
-fn same(t: Tally, who: &[u8], cut: &[u8], expected: Refusal, got: Refusal) -> Tally {
+fn same(t: Tally, who: &[u8], file: &[u8], expected: Refusal, got: Refusal) -> Tally {
     if expected.is_same(got) {
         return t.held(true);
     }
     let line = Line::new()
         .word(who)
         .word(b" on the first ")
-        .number(cut.len() as u64)
+        .number(file.len() as u64)
         .word(b" bytes: expected ");
     got.after(expected.after(line).word(b", got ")).print();
     t.held(false)
 }
 
-fn reader_on(cut: &[u8]) -> Refusal {
-    let reading = Game::read(cut);
+fn reader_on(file: &[u8]) -> Refusal {
+    let reading = Game::read(file);
     let answer = reading.answer;
     Refusal::of_answer(answer)
 }
 
-fn solver_on(cut: &[u8], table: &mut [u32], work: &mut [u32]) -> Refusal {
+fn solver_on(file: &[u8], table: &mut [u32], work: &mut [u32]) -> Refusal {
     fill(table, BEFORE);
     fill(work, BEFORE);
-    Refusal::of_solution(solve(cut, table, work))
+    Refusal::of_solution(solve(file, table, work))
 }
 
 fn are_zero(table: &[u32], work: &[u32]) -> bool {
@@ -231,12 +230,12 @@ fn are_zero(table: &[u32], work: &[u32]) -> bool {
     false
 }
 
-fn judge_on(cut: &[u8], table: &[u32]) -> Refusal {
-    Refusal::of_verdict(judge(cut, table, b"\x00\x00"))
+fn judge_on(file: &[u8], table: &[u32]) -> Refusal {
+    Refusal::of_verdict(judge(file, table, b"\x00\x00"))
 }
 
-fn move_on(cut: &[u8]) -> Refusal {
-    let played = play_move(cut, 0, [0; Game::MAX_STACK], 1, 0);
+fn move_on(file: &[u8]) -> Refusal {
+    let played = play_move(file, 0, [0; Game::MAX_STACK], 1, 0);
     let answer = played.answer;
     Refusal::of_answer(answer)
 }

@@ -1,6 +1,6 @@
 // The checklist of a field engineer, as text: cut game files, told from files with an unknown command; the same game solved twice;
 // positions where a branch of Abelard's loses; and Abelard playing worst. Each line says what was tried, how often, and passed or
-// failed; the last line has the totals. A cut or a play that fails prints a line of its own before that.
+// failed; the last line has the totals. A file or a play that fails prints a line of its own before that.
 //
 // It leaves out what the contracts say for all inputs: these are cases. It leaves out files that are damaged in another way, which
 // are those of `game_cases`, and random games, which are those of `trial`.

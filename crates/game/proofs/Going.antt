@@ -1,7 +1,7 @@
 -- The walk of `Game::read` as one equation: reading the whole file is the walk from here with the game so far.
-use Prim.Native.Nat.{ℕ, zero, suc, _+_, _*_, _-_, _<_, _≤_}
+use Prim.Native.Nat.{ℕ, zero, suc, _+_, _*_, _<_, _≤_}
 use mathlib.Core.Path.{_≡_, refl, sym, ap, _∙_}
-use mathlib.Core.Logic.{_⊎_, inl, ⊎-elim}
+use mathlib.Core.Logic.{inl, ⊎-elim}
 use mathlib.Core.Bool.{Bool}
 use mathlib.Core.List.{List, [], _∷_}
 use native.Mathlib.Omega.{arith}
@@ -56,7 +56,8 @@ unfolding walk
 turned zero file at g h l = absurd (omega arith)
 turned (suc m) file at g h l = (m, refl, rw (lt-ltb at (length file) h))
 
-no-command : (size at : ℕ) (g : PushdownGame) (found : Found) (rest : ℕ → PushdownGame → Outcome PushdownGame) → OneOf (1 ∷ 2 ∷ []) (tagOf FoundIs.the-type found) → met size at g found rest ≡ refused (askFound found) at
+no-command : (size at : ℕ) (g : PushdownGame) (found : Found) (rest : ℕ → PushdownGame → Outcome PushdownGame)
+    → OneOf (1 ∷ 2 ∷ []) (tagOf FoundIs.the-type found) → met size at g found rest ≡ refused (askFound found) at
 unfolding met
 no-command size at g (Next command next) rest h = absurd (miss (1 ∷ 2 ∷ []) 0 tt h)
 no-command size at g Missing rest h = refl

@@ -1,9 +1,9 @@
--- How many bytes the commands of a file can have that pass 2 to 7: 01 once, 02 and 03 once for each state, 04 and 05 as many times as
--- 7 allows, 3,652 in all. So no file of more than 3,653 bytes is read, and none of more than 3,658 is refused by 19: of a longer one a
--- command is refused that stands before its end.
-use Prim.Native.Nat.{ℕ, zero, suc, _+_, _*_, _-_, _<_, _≤_}
+-- How many bytes the commands of a file that pass can have, FF aside: 01 once, 02 and 03 once for each state, 04 and 05 as many times as 7
+-- allows, 3,652 in all. So no file of more than 3,653 bytes is read, and none of more than 3,658 is refused by 19: a longer one is refused
+-- by its length, at an FF that is not last, or at a whole command.
+use Prim.Native.Nat.{ℕ, zero, suc, _+_, _*_, _<_, _≤_}
 use mathlib.Core.Path.{_≡_, refl}
-use mathlib.Core.Logic.{_⊎_, inl, ⊎-elim}
+use mathlib.Core.Logic.{inl, ⊎-elim}
 use mathlib.Core.Bool.{Bool, true, false, cond, not}
 use mathlib.Core.List.{List}
 use native.Mathlib.Omega.{arith}
@@ -15,18 +15,19 @@ use Rattle.game.specs.Sets.{has, single, union}
 use Rattle.game.specs.SetLaws.{left-union, right-union, single-has}
 use Rattle.game.specs.Game.{PushdownGame}
 use Rattle.game.specs.Outcome.{Outcome, done, refused}
-use Rattle.game.specs.Questions.{inOrder, between, inRange, isNew, ask, add, everyHead, ending, reading}
+use Rattle.game.specs.Questions.{inOrder, between, inRange, isNew, ask, add, reading}
 use Rattle.game.specs.WalkLaws.{of-reading}
-use Rattle.game.specs.ListLaws.{test, both, clash, below-suc}
+use Rattle.game.specs.ListLaws.{of-either, both, clash, below-suc}
 use Rattle.game.specs.GoodGame.{SoFar}
-use Rattle.game.specs.CommandLaws.{commandSize, bytesIn, found-to, tells}
+use Rattle.game.specs.CommandLaws.{commandSize, bytesIn, found-to}
+use Rattle.game.specs.UnreadLaws.{tells}
 use Rattle.game.specs.Reads.{Passed, asked, opened, so-far, limits}
 use Rattle.game.specs.declared.command.Command.{Command}
 use Rattle.game.specs.declared.command.Command.the-variants.{Sizes, Abelard, Final, Rule, Target, End}
 
--- the bytes of the longest commands that pass, FF aside: 3,652
-abbrev pub maxCommands : ℕ
-maxCommands = 4 + 2 * maxStates + 7 * maxRules + 7 * maxTargets
+-- the most bytes that commands which pass can have, FF aside: 3,652
+abbrev pub maxCommandBytes : ℕ
+maxCommandBytes = 4 + 2 * maxStates + 7 * maxRules + 7 * maxTargets
 
 -- How many numbers below n pass a test.
 unfoldable countBelow : ℕ → (ℕ → Bool) → ℕ
@@ -71,7 +72,7 @@ abbrev statedBytes : PushdownGame → ℕ
 statedBytes g = 4 + 2 * countBelow maxStates (isStated g) + 7 * length (g .rules) + 7 * length (g .targets)
 
 -- the walk stands at an offset with the game so far: before 01 at the file's first byte, and never beyond what was stated
-record Reached (g : PushdownGame) (at : ℕ) : Type 0 where
+record Stands (g : PushdownGame) (at : ℕ) : Type 0 where
   first : g .states ≡ 0 → at ≡ 0
   stated : at ≤ statedBytes g
 
@@ -88,18 +89,18 @@ later : (n : ℕ) → not (eqb n 0) ≡ true → n ≡ 0 → ⊥
 later n h e = clash (eq-eqb n 0 e) (not-true _ h)
 
 -- One command more, FF aside: what is stated grows by at least its bytes.
-module _ (g : PushdownGame) (at : ℕ) (kept : SoFar g) (reached : Reached g at) where
+module _ (g : PushdownGame) (at : ℕ) (kept : SoFar g) (stands : Stands g at) where
   few : (g .control ≤ maxStates) × (g .states ≤ maxStates) × (length (g .rules) ≤ maxRules) × (length (g .targets) ≤ maxTargets)
   few = limits g kept
 
-  after-sizes : (p s l : ℕ) → Passed g (Sizes p s l) → Reached (add g (Sizes p s l)) (at + 4)
+  after-sizes : (p s l : ℕ) → Passed g (Sizes p s l) → Stands (add g (Sizes p s l)) (at + 4)
   unfolding inOrder inRange add
   after-sizes p s l passed =
-      let none = reached .first (eqb-true _ _ (passed .order)) in
+      let none = stands .first (eqb-true _ _ (passed .order)) in
       let some = opened p s l (passed .range) .control in
       record { first = λ e. absurd (omega (arith, some, e)); stated = omega (arith, none) }
 
-  after-abelard : (p : ℕ) → Passed g (Abelard p) → Reached (add g (Abelard p)) (at + 2)
+  after-abelard : (p : ℕ) → Passed g (Abelard p) → Stands (add g (Abelard p)) (at + 2)
   unfolding inOrder inRange isNew add
   after-abelard p passed =
       let low = ltb-true p (g .control) (passed .range) in
@@ -108,9 +109,9 @@ module _ (g : PushdownGame) (at : ℕ) (kept : SoFar g) (reached : Reached g at)
       (rw (passed .range) (not-true _ (passed .new)))
       (rw (passed .range) (right-union (g .abelard) (single p) p (single-has p)))
       (λ s. abelard-grows (ltb s (g .control)) (g .abelard) p s (has (g .finals) s)) in
-      record { first = λ e. absurd (later _ (passed .order) e); stated = omega (arith, more, reached .stated) }
+      record { first = λ e. absurd (later _ (passed .order) e); stated = omega (arith, more, stands .stated) }
 
-  after-final : (q : ℕ) → Passed g (Final q) → Reached (add g (Final q)) (at + 2)
+  after-final : (q : ℕ) → Passed g (Final q) → Stands (add g (Final q)) (at + 2)
   unfolding inOrder inRange between isNew add
   after-final q passed =
       let range = both _ _ (passed .range) in
@@ -121,19 +122,19 @@ module _ (g : PushdownGame) (at : ℕ) (kept : SoFar g) (reached : Reached g at)
       (rw further (not-true _ (passed .new)))
       (rw further (right-union (g .finals) (single q) q (single-has q)))
       (λ s. final-grows (ltb s (g .control)) (g .finals) q s (has (g .abelard) s)) in
-      record { first = λ e. absurd (later _ (passed .order) e); stated = omega (arith, more, reached .stated) }
+      record { first = λ e. absurd (later _ (passed .order) e); stated = omega (arith, more, stands .stated) }
 
-  after-rule : (p a q k b c : ℕ) → Passed g (Rule p a q k b c) → Reached (add g (Rule p a q k b c)) (at + 7)
+  after-rule : (p a q k b c : ℕ) → Passed g (Rule p a q k b c) → Stands (add g (Rule p a q k b c)) (at + 7)
   unfolding inOrder add
   after-rule p a q k b c passed =
-      record { first = λ e. absurd (later _ (passed .order) e); stated = rw (length-append (g .rules) _) (omega (arith, reached .stated)) }
+      record { first = λ e. absurd (later _ (passed .order) e); stated = rw (length-append (g .rules) _) (omega (arith, stands .stated)) }
 
-  after-target : (q a set : ℕ) → Passed g (Target q a set) → Reached (add g (Target q a set)) (at + 7)
+  after-target : (q a set : ℕ) → Passed g (Target q a set) → Stands (add g (Target q a set)) (at + 7)
   unfolding inOrder add
   after-target q a set passed =
-      record { first = λ e. absurd (later _ (passed .order) e); stated = rw (length-append (g .targets) _) (omega (arith, reached .stated)) }
+      record { first = λ e. absurd (later _ (passed .order) e); stated = rw (length-append (g .targets) _) (omega (arith, stands .stated)) }
 
-  after : (command : Command) → Passed g command → (command ≡ End → ⊥) → Reached (add g command) (at + bytesIn command)
+  after : (command : Command) → Passed g command → (command ≡ End → ⊥) → Stands (add g command) (at + bytesIn command)
   unfolding bytesIn
   after (Sizes p s l) passed h = after-sizes p s l passed
   after (Abelard p) passed h = after-abelard p passed
@@ -142,16 +143,16 @@ module _ (g : PushdownGame) (at : ℕ) (kept : SoFar g) (reached : Reached g at)
   after (Target q a set) passed h = after-target q a set passed
   after End passed h = absurd (h refl)
 
-  within-limit : at ≤ maxCommands
-  within-limit = omega (arith, reached .stated, few .2, few .3, count-most maxStates (isStated g))
+  within-limit : at ≤ maxCommandBytes
+  within-limit = omega (arith, stands .stated, few .2, few .3, count-most maxStates (isStated g))
 
--- what an outcome of reading says of lengths: the file with its FF, and where a command is cut
+-- what an outcome of the walk says of lengths: the file with its FF, and where a command is cut
 record Bounded (file : List ℕ) (o : Outcome PushdownGame) : Type 0 where
-  read : (g : PushdownGame) → o ≡ done g → length file ≤ maxCommands + 1
-  cut : (at : ℕ) → o ≡ refused 19 at → at ≤ maxCommands
+  read : (g : PushdownGame) → o ≡ done g → length file ≤ maxCommandBytes + 1
+  cut : (at : ℕ) → o ≡ refused 19 at → at ≤ maxCommandBytes
 
 module _ (file : List ℕ) where
-  by-place : (n p : ℕ) → p ≤ maxCommands → Bounded file (refused n p)
+  by-place : (n p : ℕ) → p ≤ maxCommandBytes → Bounded file (refused n p)
   by-place n p low =
       record {
         read = λ g e. absurd (let z : _≡_ {A = ℕ} 0 1 = cc in omega arith);
@@ -162,57 +163,44 @@ module _ (file : List ℕ) where
   by-number n p other =
       record { read = λ g e. absurd (let z : _≡_ {A = ℕ} 0 1 = cc in omega arith); cut = λ at e. absurd (other cc) }
 
-  by-end : (g : PushdownGame) → length file ≤ maxCommands + 1 → Bounded file (done g)
-  by-end g low = record { read = λ x e. low; cut = λ at e. absurd (let z : _≡_ {A = ℕ} 0 1 = cc in omega arith) }
-
-  choice : (b : Bool) (x y : Outcome PushdownGame) → Bounded file x → Bounded file y → Bounded file (cond b x y)
-  choice true x y f g = f
-  choice false x y f g = g
-
-  at-end : (at : ℕ) (g : PushdownGame) → at ≤ maxCommands → Bounded file (ending (length file) at g)
-  unfolding ending
-  at-end at g low =
-      ⊎-elim
-      (λ (p : eqb (at + 1) (length file) ≡ true).
-      let last = eqb-true (at + 1) (length file) p in
-      rw p (choice (everyHead (g .control) (g .letters) (g .rules)) _ _ (by-end g (omega (arith, low, last))) (by-place 9 at low)))
-      (λ (p : eqb (at + 1) (length file) ≡ false). rw p (by-place 8 at low))
-      (test (eqb (at + 1) (length file)))
+  by-game : (g : PushdownGame) → length file ≤ maxCommandBytes + 1 → Bounded file (done g)
+  by-game g low = record { read = λ x e. low; cut = λ at e. absurd (let z : _≡_ {A = ℕ} 0 1 = cc in omega arith) }
 
   bounded : Bounded file (reading file)
   bounded =
-      of-reading file (λ at g. SoFar g × Reached g at) (Bounded file)
+      of-reading file (λ at g. SoFar g × Stands g at) (Bounded file)
       (record {
-        by-length = by-number 1 0 (λ e. omega arith);
-        starts = (inl refl, record { first = λ e. refl; stated = omega arith });
         by-byte = λ at g i inside found. by-place 2 at (within-limit g at (i .0) (i .1));
         by-end = λ at g i inside found. by-place 19 at (within-limit g at (i .0) (i .1));
-        by-command = λ at g command i h. by-place (ask g command) at (within-limit g at (i .0) (i .1));
+        by-command = λ at next g command i found h. by-place (ask g command) at (within-limit g at (i .0) (i .1));
         goes-on = λ at next g command i found passed h.
             (so-far g (i .0) command passed, rw (found-to file at command next found) (after g at (i .0) (i .1) command (asked g command passed) h));
-        closes = λ at g i passed. at-end at g (within-limit g at (i .0) (i .1));
-        runs-out = by-number 8 (length file) (λ e. omega arith);
+        by-rest = λ at g i h. by-place 8 at (within-limit g at (i .0) (i .1));
+        by-head = λ at g i last h. by-place 9 at (within-limit g at (i .0) (i .1));
+        reads = λ at g i last passed h. let low = within-limit g at (i .0) (i .1) in by-game g (omega (arith, low, last));
+        runs-out = λ at g i. by-number 8 (length file) (λ e. omega arith);
       })
+      (by-number 1 0 (λ e. omega arith))
+      (λ some few. (inl refl, record { first = λ e. refl; stated = omega arith }))
 
-at-most : (b : Bool) (x y : ℕ) → x ≤ 7 → y ≤ 7 → cond b x y ≤ 7
-at-most true x y f g = f
-at-most false x y f g = g
+abbrev Short : ℕ → Type 0
+Short n = n ≤ 7
 
 size-most : (code : ℕ) → commandSize code ≤ 7
 unfolding commandSize
 size-most code =
-    at-most (eqb code 1) 4 _ (omega arith)
-    (at-most (eqb code 2) 2 _ (omega arith)
-    (at-most (eqb code 3) 2 _ (omega arith)
-    (at-most (eqb code 4) 7 _ (omega arith)
-    (at-most (eqb code 5) 7 _ (omega arith) (at-most (eqb code 255) 1 0 (omega arith) (omega arith))))))
+    of-either Short (eqb code 1) 4 _ (omega arith)
+    (of-either Short (eqb code 2) 2 _ (omega arith)
+    (of-either Short (eqb code 3) 2 _ (omega arith)
+    (of-either Short (eqb code 4) 7 _ (omega arith)
+    (of-either Short (eqb code 5) 7 _ (omega arith) (of-either Short (eqb code 255) 1 0 (omega arith) (omega arith))))))
 
 -- No file of more than 3,653 bytes is read,
-pub longest-read : (file : List ℕ) (g : PushdownGame) → reading file ≡ done g → length file ≤ maxCommands + 1
-longest-read file g e = bounded file .read g e
+pub read-length : (file : List ℕ) (g : PushdownGame) → reading file ≡ done g → length file ≤ maxCommandBytes + 1
+read-length file g e = bounded file .read g e
 
 -- and none of more than 3,658 is refused by 19.
-pub longest-cut : (file : List ℕ) (at : ℕ) → reading file ≡ refused 19 at → length file ≤ maxCommands + 6
-longest-cut file at e =
-    let cut = tells file .nineteen at e in
-    omega (arith, cut .beyond, size-most (getD file at 0), bounded file .cut at e)
+pub cut-length : (file : List ℕ) (at : ℕ) → reading file ≡ refused 19 at → length file ≤ maxCommandBytes + 6
+cut-length file at e =
+    let beyond = tells file .cut at e .beyond in
+    omega (arith, beyond, size-most (getD file at 0), bounded file .cut at e)

@@ -1,30 +1,28 @@
 -- The theorem that a game that was read is good, by the walk: each command that passes 3 to 7 keeps what holds so far.
-use Prim.Native.Nat.{ℕ, zero, suc, _+_, _-_, _/_, _%_, _^_, _<_, _≤_}
-use mathlib.Core.Path.{_≡_, refl, sym, ap, subst, _∙_}
+use Prim.Native.Nat.{ℕ, suc, _+_, _/_, _^_, _<_, _≤_}
+use mathlib.Core.Path.{_≡_, refl, sym, ap, _∙_}
 use mathlib.Core.Logic.{_⊎_, inl, inr, ⊎-elim}
-use mathlib.Core.Bool.{Bool, true, false, cond, not, _&&_, _||_}
-use mathlib.Core.List.{List, [], _∷_, _++_, List·Memᴰ, List·Memᴰ·head, List·Memᴰ·tail, List·Memᴰ·not-nil, List·Memᴰ·append-cases, List·Memᴰ·eq-of-singleton}
+use mathlib.Core.Bool.{Bool, true, false, cond}
+use mathlib.Core.List.{List, [], _∷_, _++_, List·Memᴰ, List·Memᴰ·not-nil, List·Memᴰ·append-cases, List·Memᴰ·eq-of-singleton}
 use native.Mathlib.Omega.{arith}
 use native.Mathlib.Nat.{add-zero, mod-lt}
 use lib.ListN.{length, getD, length-append, List·getD-append}
 use lib.Seq.{getD-append-seam}
-use lib.Dec.{eqb, ltb, leb}
+use lib.Dec.{ltb, leb}
 use lib.Bits.{or-lt}
 use lib.Pow.{pow-lt, pow-pos, split}
-use borrow.Author.Tests.{ltb-true, leb-true, eqb-true, eqb-false, not-true, ne-eqb, eq-eqb, lt-ltb}
-use Rattle.game.specs.Limits.{maxControl, maxStates, maxLetters, maxRules, maxTargets}
-use Rattle.game.specs.Sets.{has, single, union, within}
-use Rattle.game.specs.Game.{Rule, Transition, PushdownGame, emptyGame, wordOf, ofHead, rulesOf, filter}
+use borrow.Author.Tests.{ltb-true, leb-true, eqb-true, eqb-false, not-true, eq-eqb}
+use Rattle.game.specs.Limits.{maxStates, maxRules, maxTargets}
+use Rattle.game.specs.Sets.{within}
+use Rattle.game.specs.Game.{Rule, Transition, PushdownGame, emptyGame, wordOf, ofHead, rulesOf}
 use Rattle.game.specs.Outcome.{Outcome, done, refused}
-use Rattle.game.specs.Command.{commandAt}
-use Rattle.game.specs.Questions.{any, allBelow, inOrder, sizesInRange, between, unusedZero, ruleInRange, targetInRange, inRange, bottomKept, keepsBottom, sameRule, sameTarget, isNew, hasRoom, ask, Room, add, everyLetter, everyHead, ending, taken, met, walk, reading}
-use Rattle.game.specs.ListLaws.{test, clash, both, any-in, in-filter, none-at, allBelow-at, below-suc}
+use Rattle.game.specs.Questions.{any, inOrder, sizesInRange, between, ruleInRange, targetInRange, inRange, bottomKept, keepsBottom, sameTarget, isNew, hasRoom, ask, Room, add, everyLetter, everyHead, walk, reading}
+use Rattle.game.specs.ListLaws.{both, any-in, in-filter, none-at, allBelow-at, below-suc}
 use Rattle.game.specs.StoredLaws.{noTransition}
+use Rattle.game.specs.WalkLaws.{Answers, of-walk, of-reading}
 use Rattle.game.specs.GoodGame.{GoodRule, GoodTarget, Numbered, Distinct, Ranged, SoFar, Good}
 use Rattle.game.specs.declared.command.Command.{Command}
 use Rattle.game.specs.declared.command.Command.the-variants.{Sizes, Abelard, Final, Rule as RuleIs, Target, End}
-use Rattle.game.specs.declared.command.Found.{Found}
-use Rattle.game.specs.declared.command.Found.the-variants.{Next, Missing, Unknown}
 
 -- a chain of tests that gives 0 passed its first test
 passed : (b : Bool) (x n : ℕ) → cond b x (suc n) ≡ 0 → (b ≡ true) × (x ≡ 0)
@@ -275,20 +273,6 @@ heads g h p a i j =
 refused≢done : {A : Type 0} {n p : ℕ} {x : A} → refused n p ≡ done x → ⊥
 refused≢done e = let z : _≡_ {A = ℕ} 0 1 = cc in omega arith
 
-ended : (size at : ℕ) (g x : PushdownGame) → Ranged g → ending size at g ≡ done x → Good x
-unfolding ending
-ended size at g x r e =
-    ⊎-elim
-    (λ (p : eqb (at + 1) size ≡ true).
-    ⊎-elim
-    (λ (q : everyHead (g .control) (g .letters) (g .rules) ≡ true).
-    let same : g ≡ x = cc (rw (p, q) at e) in
-    rw (← same) (record { ranged = r; head = heads g q }))
-    (λ (q : everyHead (g .control) (g .letters) (g .rules) ≡ false). absurd (refused≢done (rw (p, q) at e)))
-    (test (everyHead (g .control) (g .letters) (g .rules))))
-    (λ (p : eqb (at + 1) size ≡ false). absurd (refused≢done (rw p at e)))
-    (test (eqb (at + 1) size))
-
 -- FF passes 3 only after 01
 started : (g : PushdownGame) → SoFar g → ask g End ≡ 0 → Ranged g
 started g k h =
@@ -297,46 +281,29 @@ started g k h =
     (λ (r : Ranged g). r)
     k
 
-took : (size at : ℕ) (g x : PushdownGame) → SoFar g → (command : Command) → ask g command ≡ 0 → (rest : Outcome PushdownGame) → (rest ≡ done x → Good x) → taken size at g command rest ≡ done x → Good x
-unfolding taken
-took size at g x k (Sizes p s l) h rest good e = good e
-took size at g x k (Abelard p) h rest good e = good e
-took size at g x k (Final q) h rest good e = good e
-took size at g x k (RuleIs p a q n b c) h rest good e = good e
-took size at g x k (Target q a s) h rest good e = good e
-took size at g x k End h rest good e = ended size at g x (started g k h) e
+-- the game that an outcome hands out is good
+abbrev GoodIn : Outcome PushdownGame → Type 0
+GoodIn o = (x : PushdownGame) → o ≡ done x → Good x
 
-meets : (size at : ℕ) (g x : PushdownGame) → SoFar g → (found : Found) → (rest : ℕ → PushdownGame → Outcome PushdownGame) → ((next : ℕ) (grown : PushdownGame) → SoFar grown → rest next grown ≡ done x → Good x) → met size at g found rest ≡ done x → Good x
-unfolding met
-meets size at g x k Missing rest good e = absurd (refused≢done e)
-meets size at g x k Unknown rest good e = absurd (refused≢done e)
-meets size at g x k (Next command next) rest good e =
-    ⊎-elim
-    (λ (p : eqb (ask g command) 0 ≡ true).
-    let h = eqb-true (ask g command) 0 p in
-    took size at g x k command h (rest next (add g command)) (good next (add g command) (so-far g k command h)) (rw p at e))
-    (λ (p : eqb (ask g command) 0 ≡ false). absurd (refused≢done (rw p at e)))
-    (test (eqb (ask g command) 0))
+good-answers : (file : List ℕ) → Answers file (λ at g. SoFar g) GoodIn
+good-answers file =
+    record {
+      by-byte = λ at g k inside found x e. absurd (refused≢done e);
+      by-end = λ at g k inside found x e. absurd (refused≢done e);
+      by-command = λ at next g command k found h x e. absurd (refused≢done e);
+      goes-on = λ at next g command k found passed h. so-far g k command passed;
+      by-rest = λ at g k h x e. absurd (refused≢done e);
+      by-head = λ at g k last h x e. absurd (refused≢done e);
+      reads = λ at g k last passed h x e.
+          let same : g ≡ x = cc in
+          rw (← same) (record { ranged = started g k passed; head = heads g h });
+      runs-out = λ at g k x e. absurd (refused≢done e);
+    }
 
-walked : (left : ℕ) (file : List ℕ) (at : ℕ) (g x : PushdownGame) → SoFar g → walk left file at g ≡ done x → Good x
-unfolding walk
-walked zero file at g x k e = absurd (refused≢done e)
-walked (suc left) file at g x k e =
-    ⊎-elim
-    (λ (p : ltb at (length file) ≡ true).
-    meets (length file) at g x k (commandAt file at) (walk left file) (λ next grown s. walked left file next grown x s) (rw p at e))
-    (λ (p : ltb at (length file) ≡ false). absurd (refused≢done (rw p at e)))
-    (test (ltb at (length file)))
+pub walked : (left : ℕ) (file : List ℕ) (at : ℕ) (g x : PushdownGame) → SoFar g → walk left file at g ≡ done x → Good x
+walked left file at g x k e = of-walk file (λ at g. SoFar g) GoodIn (good-answers file) left at g k x e
 
 -- A game that was read is good.
 pub good : (file : List ℕ) (g : PushdownGame) → reading file ≡ done g → Good g
-unfolding reading
 good file g e =
-    ⊎-elim
-    (λ (p : ltb (length file) 1 ≡ true). absurd (refused≢done (rw p at e)))
-    (λ (p : ltb (length file) 1 ≡ false).
-    ⊎-elim
-    (λ (q : ltb 4096 (length file) ≡ true). absurd (refused≢done (rw (p, q) at e)))
-    (λ (q : ltb 4096 (length file) ≡ false). walked (length file) file 0 emptyGame g (inl refl) (rw (p, q) at e))
-    (test (ltb 4096 (length file))))
-    (test (ltb (length file) 1))
+    of-reading file (λ at g. SoFar g) GoodIn (good-answers file) (λ x e. absurd (refused≢done e)) (λ some few. inl refl) g e

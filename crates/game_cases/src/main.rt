@@ -1,5 +1,5 @@
 // A test program over `game`. Its input is a script of cases: game files and positions, built byte by byte in a buffer, each
-// with the answer, number, place and game that document 01 demands. It prints a line for each case that fails, and then how
+// with the answer, number, place and game that documents 01 and 02 demand. It prints a line for each case that fails, and then how
 // many were tried and how many failed. `words.rt` lists the words of a script.
 //
 // It leaves out what the contracts say for all inputs: these are cases.

@@ -65,6 +65,6 @@ judgingGame g words position =
     after (tableForm g words) (λ u. after (form (g .control) (g .letters) position)
     (λ v. verdictOfBytes g (entriesOf words) position))
 
--- Judging a position over a table's words, "after 1 to 9".
+-- Judging a position over a table's words, "after 1 to 9" and 19.
 unfoldable pub judging : List ℕ → List ℕ → List ℕ → Outcome Verdict
 judging file words position = after (reading file) (λ g. judgingGame g words position)

@@ -65,7 +65,7 @@ turn g p (a ∷ rest) n = replaced rest (numbered n (rulesOf g p a))
 unfoldable pub moving : PushdownGame → Session → ℕ → Outcome Position
 moving g s n = cond (sessionInForm g s) (turn g (s .state) (topFirst (s .height) (s .stack)) n) (refused 14 0)
 
--- "Moving, after 1 to 9"
+-- "Moving, after 1 to 9", and 19
 unfoldable pub movingIn : Outcome PushdownGame → Session → ℕ → Outcome Position
 movingIn (done g) s n = moving g s n
 movingIn (refused number place) s n = refused number place

@@ -1,5 +1,5 @@
 // A test program over `session`: moves of samples A, B and C with the session before and after, every refusal, and the edges of
-// heights, letters and rule numbers, each by value and lent, against what document 01 demands. It prints the moves of the samples, a line for each
+// heights, letters and rule numbers, each by value and lent, against what documents 01 and 02 demand. It prints the moves of the samples, a line for each
 // case that fails, and then how many were tried and how many failed.
 //
 // It leaves out what the contracts say for all inputs: these are cases.

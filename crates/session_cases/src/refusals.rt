@@ -4,6 +4,7 @@ use crate::sessions::tall;
 use crate::tally::Tally;
 use game::Answer;
 use game::Game;
+use session::Session;
 
 pub fn every_refusal(t: Tally, a: &[u8], c: &[u8]) -> Tally {
     let t = refused_lengths(t);
@@ -30,6 +31,7 @@ fn refused_files(t: Tally) -> Tally {
     let s = of(0, 1, [0, 3, 3, 3], 3);
     let t = t.refuses(b"\x09", s, 0, 2, 0);
     let t = t.refuses(b"\x01\x01", s, 0, 19, 0);
+    let t = refused_cut(t, s);
     let t = t.refuses(b"\xff", s, 0, 3, 0);
     let t = t.refuses(b"\x01\x00\x02\x01\xff", s, 0, 4, 0);
     let t = t.refuses(
@@ -43,6 +45,13 @@ fn refused_files(t: Tally) -> Tally {
     let t = t.refuses(twice, s, 0, 6, 11);
     let t = t.refuses(b"\x01\x01\x02\x01\xff\xff", s, 0, 8, 4);
     t.refuses(b"\x01\x01\x02\x01\xff", s, 0, 9, 4)
+}
+
+// 19 and 2 after a whole command: a rule that is cut, with operands out of range; a second 01 that is cut; an unknown byte.
+fn refused_cut(t: Tally, s: Session) -> Tally {
+    let t = t.refuses(b"\x01\x02\x03\x02\x04\x63\x01\x00\x01\x01", s, 0, 19, 4);
+    let t = t.refuses(b"\x01\x02\x03\x02\x01\x02\x03", s, 0, 19, 4);
+    t.refuses(b"\x01\x02\x03\x02\x06\x02\x03", s, 0, 2, 4)
 }
 
 // 7 at the 257th rule.

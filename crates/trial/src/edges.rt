@@ -76,13 +76,24 @@ fn every_length(
         0 12 refused 10 0
         15 15 solved 4 2
     ";
-    let cut = b"
+    let t = every_solve(t, a, solving, table, work, other);
+    every_cut(t, a, table, work, other)
+}
+
+// A file that is cut between two commands, and one that is cut within a command.
+fn every_cut(t: Tally, a: &[u8], table: &mut [u32], work: &mut [u32], other: &mut [u32]) -> Tally {
+    let between = b"
         5 7 refused 8 57
         12 12 refused 8 57
         0 0 refused 8 57
     ";
-    let t = every_solve(t, a, solving, table, work, other);
-    every_solve(t, front(a, 57), cut, table, work, other)
+    let within = b"
+        5 7 refused 19 50
+        12 12 refused 19 50
+        0 0 refused 19 50
+    ";
+    let t = every_solve(t, front(a, 57), between, table, work, other);
+    every_solve(t, front(a, 55), within, table, work, other)
 }
 
 // 256 letters are judged, 257 are not.

@@ -1,15 +1,15 @@
--- `cuts::expecting` ends and is safe. The measure is how many cuts are left. Assumes nothing.
+-- `cuts::within` ends and is safe. The measure is how many cuts are left. Assumes nothing.
 use Prim.Native.Nat.{_-_}
 use lib.ListN.{length}
 use borrow.Author.Needs.{needs}
-use Rattle.checklist.proofs.cuts.expecting.Statement.{statement}
-use Rattle.checklist.proofs.cuts.expecting.Tie as tie
+use Rattle.checklist.proofs.cuts.within.Statement.{statement}
+use Rattle.checklist.proofs.cuts.within.Tie as tie
 
 abbrev Inv-loop : tie.InvT-loop
-Inv-loop file question count₀ n₀ count n = Unit {0}
+Inv-loop file count₀ n₀ count n = Unit {0}
 
 abbrev μ-loop : tie.MeasureT-loop
-μ-loop file question count₀ n₀ count n = length file - n
+μ-loop file count₀ n₀ count n = length file - n
 
 loop-holds : tie.Need-loop-holds Inv-loop μ-loop
 loop-holds c = search needs
@@ -32,8 +32,8 @@ loop-again c = search needs
 returns : tie.Need-returns Inv-loop μ-loop
 returns c = search needs
 
-pub expecting-spec : {M : Type 1} → statement M
-expecting-spec =
+pub within-spec : {M : Type 1} → statement M
+within-spec =
     tie.close
     (tie.spec
     Inv-loop
