@@ -119,17 +119,35 @@ fn is_zero(words: &[u32]) -> bool {
     words.iter().all(|word| *word == 0)
 }
 
+/// Two areas for the library, neither of them zero.
+fn areas() -> [Vec<u32>; 2] {
+    [1, 1].map(|word| vec![word; library::MAX_TABLE])
+}
+
+/// Whether the library gives the answer of the solvers in Rust, where these agree, with the same words in both areas.
+fn library_agrees(rust: &InRust, file: &[u8], table: &mut [u32], work: &mut [u32]) -> bool {
+    let by_library = library::solve(file, table, work);
+    rust.agree
+        && answer_of(by_library) == rust.answer
+        && (by_library.number != 0 || by_library.words[0] == 0)
+        && *table == rust.table
+        && is_zero(work)
+}
+
+/// The answer of all three on a file with 2,048 entries lent, if they agree; no times.
+pub fn agreed(file: &[u8]) -> Option<Answer> {
+    let rust = InRust::solve(file);
+    let [mut table, mut work] = areas();
+    library_agrees(&rust, file, &mut table, &mut work).then_some(rust.answer)
+}
+
 /// Compares the solvers on a game with 2,048 entries lent. At first neither area is zero.
 pub fn compare(game: &Named, budget: Duration) -> Compared {
     let file = &game.file;
-    let InRust { answer, agree, table: mut heap_table, lent: [mut lent_table, mut lent_work] } = InRust::solve(file);
-    let [mut table, mut work] = [1, 1].map(|word| vec![word; library::MAX_TABLE]);
-    let by_library = library::solve(file, &mut table, &mut work);
-    let agrees = agree
-        && answer_of(by_library) == answer
-        && (by_library.number != 0 || by_library.words[0] == 0)
-        && table == heap_table
-        && is_zero(&work);
+    let rust = InRust::solve(file);
+    let [mut table, mut work] = areas();
+    let agrees = library_agrees(&rust, file, &mut table, &mut work);
+    let InRust { answer, agree: _, table: mut heap_table, lent: [mut lent_table, mut lent_work] } = rust;
     let [library, lent, heap] = best_of_each(
         budget,
         [

@@ -1,5 +1,5 @@
 //! The bench: the library against two independent solvers in Rust on the same games in one process, the judge's and the reader's
-//! times, growth, and the stack that each entry point needs. Its tables are in the form of docs/PERFORMANCE.md.
+//! times, growth, files that are refused, and the stack that each entry point needs. Its tables are in the form of docs/PERFORMANCE.md.
 //!
 //!     bench [--check] FILE ...      game files, in the order of the report; those whose names begin with 'heavy' count for the
 //!                                   figures
@@ -29,6 +29,7 @@ mod watched;
 
 use comparison::{compare_all, mean_and_largest, Compared, Named};
 use figures::{Figures, Held};
+use std::collections::BTreeMap;
 use std::path::Path;
 use std::process::ExitCode;
 use std::time::Duration;
@@ -62,6 +63,7 @@ fn measure(files: &[&str], is_check: bool) -> ExitCode {
     judging(&compared, &mut figures);
     growing(&mut compared, &mut figures);
     hard_games(&mut figures);
+    refused_files(&games, &mut figures);
     stacks(&games, &mut figures);
     println!();
     figures.print();
@@ -206,6 +208,27 @@ fn hard_games(figures: &mut Figures) {
     for file in differing {
         figures.fault(format!("games/hard/{file}.game is not what its construction gives, or the solvers in Rust differ on it"));
     }
+}
+
+/// Every cut of the shortest game, and the whole of it with an unknown byte in the place of each of its bytes: that all three
+/// answer each with the same number, place and words. How often each number came is printed, 0 for a file that is solved.
+fn refused_files(games: &[Named], figures: &mut Figures) {
+    let Some(game) = games.iter().min_by_key(|game| game.file.len()) else { return };
+    let cuts = (0..game.file.len()).map(|length| game.file[..length].to_vec());
+    let damages = (0..game.file.len()).map(|at| {
+        let mut file = game.file.clone();
+        file[at] = 0xFE;
+        file
+    });
+    let mut counted = BTreeMap::new();
+    for file in cuts.chain(damages) {
+        match comparison::agreed(&file) {
+            Some(answer) => *counted.entry(answer.err().map_or(0, |refusal| refusal.number)).or_insert(0) += 1,
+            None => figures.fault(format!("answers or words differ on a cut or damaged file of {}", game.name)),
+        }
+    }
+    let numbers: Vec<String> = counted.iter().map(|(number, count)| format!("{number}: {count}")).collect();
+    println!("\nrefused files, every cut of {0} and every byte of it made FE, by number: {1}", game.name, numbers.join(", "));
 }
 
 fn stacks(games: &[Named], figures: &mut Figures) {

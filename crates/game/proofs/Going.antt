@@ -6,14 +6,15 @@ use mathlib.Core.Bool.{Bool}
 use mathlib.Core.List.{List, [], _∷_}
 use native.Mathlib.Omega.{arith}
 use lib.ListN.{length}
-use borrow.Author.Tests.{lt-ltb, le-ltb, ne-eqb}
+use borrow.Author.Tests.{le-ltb, ne-eqb}
 use types.Run.{OneOf, miss}
 use denote.Enum.Declared.{tagOf}
 use Rattle.game.specs.Limits.{maxControl, maxStates, maxLetters, maxRules, maxTargets, ruleStride, targetStride}
 use Rattle.game.specs.Game.{PushdownGame, emptyGame}
 use Rattle.game.specs.Outcome.{Outcome, refused}
 use Rattle.game.specs.Command.{commandAt}
-use Rattle.game.specs.CommandLaws.{found-to, some-bytes}
+use Rattle.game.specs.CommandLaws.{found-further}
+use Rattle.game.specs.WalkLaws.{turn, not-end}
 use Rattle.game.specs.Questions.{ask, askFound, Room, add, everyHead, ending, taken, met, walk, reading}
 use Rattle.game.specs.Stored.{sizesOf}
 use Rattle.game.specs.Parts.{Parts, Fit, rules-room, targets-room}
@@ -22,7 +23,7 @@ use Rattle.game.specs.GoodGame.{SoFar, Ranged}
 use Rattle.game.specs.Reads.{so-far, limits, room}
 use Rattle.game.specs.declared.game.Sizes.{Sizes}
 use Rattle.game.specs.declared.command.Command.{Command}
-use Rattle.game.specs.declared.command.Command.the-variants.{Sizes as SizesAre, Abelard, Final, Rule, Target, End}
+use Rattle.game.specs.declared.command.Command.the-variants.{End}
 use Rattle.game.specs.declared.command.Found.{Found}
 use Rattle.game.specs.declared.command.Found.the-variants.{Next, Missing, Unknown}
 use Rattle.game.proofs.command.Command as CommandIs
@@ -50,12 +51,6 @@ start file sizes rules targets marks low high e f =
       same = rw (le-ltb (length file) 1 low, le-ltb 4096 (length file) high);
     }
 
--- one turn of the walk
-turned : (n : ℕ) (file : List ℕ) (at : ℕ) (g : PushdownGame) → at < length file → length file ≤ at + n → (m : ℕ) × (n ≡ suc m) × (walk n file at g ≡ met (length file) at g (commandAt file at) (walk m file))
-unfolding walk
-turned zero file at g h l = absurd (omega arith)
-turned (suc m) file at g h l = (m, refl, rw (lt-ltb at (length file) h))
-
 no-command : (size at : ℕ) (g : PushdownGame) (found : Found) (rest : ℕ → PushdownGame → Outcome PushdownGame)
     → OneOf (1 ∷ 2 ∷ []) (tagOf FoundIs.the-type found) → met size at g found rest ≡ refused (askFound found) at
 unfolding met
@@ -63,29 +58,24 @@ no-command size at g (Next command next) rest h = absurd (miss (1 ∷ 2 ∷ []) 
 no-command size at g Missing rest h = refl
 no-command size at g Unknown rest h = refl
 
-not-end : (size at : ℕ) (g : PushdownGame) (command : Command) (rest : Outcome PushdownGame) → OneOf (0 ∷ 1 ∷ 2 ∷ 3 ∷ 4 ∷ []) (tagOf CommandIs.the-type command) → taken size at g command rest ≡ rest
-unfolding taken
-not-end size at g (SizesAre p s l) rest h = refl
-not-end size at g (Abelard p) rest h = refl
-not-end size at g (Final q) rest h = refl
-not-end size at g (Rule p a q k b c) rest h = refl
-not-end size at g (Target q a s) rest h = refl
-not-end size at g End rest h = absurd (miss (0 ∷ 1 ∷ 2 ∷ 3 ∷ 4 ∷ []) 5 tt h)
+-- the keys of every command but FF
+not-end-key : (command : Command) → OneOf (0 ∷ 1 ∷ 2 ∷ 3 ∷ 4 ∷ []) (tagOf CommandIs.the-type command) → command ≡ End → ⊥
+not-end-key command h e = miss (0 ∷ 1 ∷ 2 ∷ 3 ∷ 4 ∷ []) 5 tt (rw e at h)
 
 heads-in-range : (g : PushdownGame) → SoFar g → (g .control ≤ maxControl) × (g .letters ≤ maxLetters)
 heads-in-range g k =
     ⊎-elim (λ (e : g ≡ emptyGame). rw e (omega arith, omega arith)) (λ (r : Ranged g). (r .controls, r .letters)) k
 
 module _ (file : List ℕ) (sizes : Sizes) (rules targets marks : List ℕ) (at : ℕ) (going : Going file sizes rules targets marks at) (inside : at < length file) where
-  turn : (m : ℕ) × (going .turns ≡ suc m) × (walk (going .turns) file at (going .so) ≡ met (length file) at (going .so) (commandAt file at) (walk m file))
-  turn = turned (going .turns) file at (going .so) inside (going .enough)
+  here : (m : ℕ) × (going .turns ≡ suc m) × (walk (going .turns) file at (going .so) ≡ met (length file) at (going .so) (commandAt file at) (walk m file))
+  here = turn file (going .turns) at (going .so) inside (going .enough)
 
   -- 2 or 19 is answered no
   pub stops : (found : Found) → found ≡ commandAt file at → OneOf (1 ∷ 2 ∷ []) (tagOf FoundIs.the-type found) → reading file ≡ refused (askFound found) at
   stops found e h =
       going .same
-      ∙ turn .2
-      ∙ rw (← e) (no-command (length file) at (going .so) found (walk (turn .0) file) h)
+      ∙ here .2
+      ∙ rw (← e) (no-command (length file) at (going .so) found (walk (here .0) file) h)
 
   bounds : (sizes .control ≤ maxStates) × (sizes .states ≤ maxStates) × (sizes .rulecount ≤ maxRules) × (sizes .targetcount ≤ maxTargets)
   bounds = rw (going .held .sized) (limits (going .so) (going .kept))
@@ -118,12 +108,12 @@ module _ (file : List ℕ) (sizes : Sizes) (rules targets marks : List ℕ) (at 
 
   module _ (command : Command) (next : ℕ) (found : commandAt file at ≡ Next command next) where
     pub further : at < next
-    further = omega (arith, found-to file at command next found, some-bytes command)
+    further = found-further file at command next found
 
     -- one of 3 to 7 is answered no
     pub refuses : (number : ℕ) → number ≡ ask (going .so) command → (number ≡ 0 → ⊥) → reading file ≡ refused number at
     unfolding met
-    refuses number e h = going .same ∙ turn .2 ∙ rw (found, ← e, ne-eqb number 0 h)
+    refuses number e h = going .same ∙ here .2 ∙ rw (found, ← e, ne-eqb number 0 h)
 
     module _ (number : ℕ) (e : number ≡ ask (going .so) command) (passed : number ≡ 0) where
       all-passed : ask (going .so) command ≡ 0
@@ -132,9 +122,9 @@ module _ (file : List ℕ) (sizes : Sizes) (rules targets marks : List ℕ) (at 
       pub fits : Room (sizes .rulecount) (sizes .targetcount) command
       fits = rw (going .held .sized) (room (going .so) (going .kept) command all-passed)
 
-      on : reading file ≡ taken (length file) at (going .so) command (walk (turn .0) file next (add (going .so) command))
+      on : reading file ≡ taken (length file) at (going .so) command (walk (here .0) file next (add (going .so) command))
       unfolding met
-      on = going .same ∙ turn .2 ∙ rw (found, all-passed)
+      on = going .same ∙ here .2 ∙ rw (found, all-passed)
 
       -- FF
       pub closes : command ≡ End → reading file ≡ ending (length file) at (going .so)
@@ -146,12 +136,12 @@ module _ (file : List ℕ) (sizes : Sizes) (rules targets marks : List ℕ) (at 
       goes sizes′ rules′ targets′ marks′ g f h =
           record {
             so = add (going .so) command;
-            turns = turn .0;
+            turns = here .0;
             held = g;
             marked = f;
             kept = so-far (going .so) (going .kept) command all-passed;
-            enough = omega (arith, further, going .enough, turn .1);
-            same = on ∙ not-end (length file) at (going .so) command (walk (turn .0) file next (add (going .so) command)) h;
+            enough = omega (arith, further, going .enough, here .1);
+            same = on ∙ not-end file at (going .so) command (walk (here .0) file next (add (going .so) command)) (not-end-key command h);
           }
 
 past : (n : ℕ) (file : List ℕ) (at : ℕ) (g : PushdownGame) → length file ≤ at → walk n file at g ≡ refused 8 (length file)

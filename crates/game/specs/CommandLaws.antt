@@ -31,7 +31,7 @@ bytesIn (Rule p a q k b c) = 7
 bytesIn (Target q a set) = 7
 bytesIn End = 1
 
-pub some-bytes : (command : Command) → 0 < bytesIn command
+some-bytes : (command : Command) → 0 < bytesIn command
 unfolding bytesIn
 some-bytes (Sizes p s l) = omega arith
 some-bytes (Abelard p) = omega arith
@@ -112,6 +112,10 @@ module _ (file : List ℕ) (at : ℕ) where
   -- its bytes stand between its offset and the one after it
   pub found-to : (command : Command) (next : ℕ) → commandAt file at ≡ Next command next → next ≡ at + bytesIn command
   found-to command next e = fits file at (found-inside command next e) .to command next e
+
+  -- and that one is further on
+  pub found-further : (command : Command) (next : ℕ) → commandAt file at ≡ Next command next → at < next
+  found-further command next e = omega (arith, found-to command next e, some-bytes command)
 
   module _ (inside : at < length file) where
     pub found-unknown : (commandAt file at ≡ Unknown) ↔ (commandSize (getD file at 0) ≡ 0)

@@ -175,10 +175,10 @@ module _ (file : List ℕ) where
         by-command = λ at next g command i found h. by-place (ask g command) at (within-limit g at (i .0) (i .1));
         goes-on = λ at next g command i found passed h.
             (so-far g (i .0) command passed, rw (found-to file at command next found) (after g at (i .0) (i .1) command (asked g command passed) h));
-        by-rest = λ at g i h. by-place 8 at (within-limit g at (i .0) (i .1));
-        by-head = λ at g i last h. by-place 9 at (within-limit g at (i .0) (i .1));
-        reads = λ at g i last passed h. let low = within-limit g at (i .0) (i .1) in by-game g (omega (arith, low, last));
-        runs-out = λ at g i. by-number 8 (length file) (λ e. omega arith);
+        by-rest = λ at g i end h. by-place 8 at (within-limit g at (i .0) (i .1));
+        by-head = λ at g i end last h. by-place 9 at (within-limit g at (i .0) (i .1));
+        reads = λ at g i end last passed h. let low = within-limit g at (i .0) (i .1) in by-game g (omega (arith, low, last));
+        runs-out = λ at g i beyond. by-number 8 (length file) (λ e. omega arith);
       })
       (by-number 1 0 (λ e. omega arith))
       (λ some few. (inl refl, record { first = λ e. refl; stated = omega arith }))

@@ -16,10 +16,10 @@ use Rattle.game.specs.Limits.{maxStates, maxRules, maxTargets}
 use Rattle.game.specs.Sets.{within}
 use Rattle.game.specs.Game.{Rule, Transition, PushdownGame, emptyGame, wordOf, ofHead, rulesOf}
 use Rattle.game.specs.Outcome.{Outcome, done, refused}
-use Rattle.game.specs.Questions.{any, inOrder, sizesInRange, between, ruleInRange, targetInRange, inRange, bottomKept, keepsBottom, sameTarget, isNew, hasRoom, ask, Room, add, everyLetter, everyHead, walk, reading}
+use Rattle.game.specs.Questions.{any, inOrder, sizesInRange, between, ruleInRange, targetInRange, inRange, bottomKept, keepsBottom, sameTarget, isNew, hasRoom, ask, Room, add, everyLetter, everyHead, reading}
 use Rattle.game.specs.ListLaws.{both, any-in, in-filter, none-at, allBelow-at, below-suc}
 use Rattle.game.specs.StoredLaws.{noTransition}
-use Rattle.game.specs.WalkLaws.{Answers, of-walk, of-reading}
+use Rattle.game.specs.WalkLaws.{Answers, of-reading}
 use Rattle.game.specs.GoodGame.{GoodRule, GoodTarget, Numbered, Distinct, Ranged, SoFar, Good}
 use Rattle.game.specs.declared.command.Command.{Command}
 use Rattle.game.specs.declared.command.Command.the-variants.{Sizes, Abelard, Final, Rule as RuleIs, Target, End}
@@ -292,16 +292,13 @@ good-answers file =
       by-end = λ at g k inside found x e. absurd (refused≢done e);
       by-command = λ at next g command k found h x e. absurd (refused≢done e);
       goes-on = λ at next g command k found passed h. so-far g k command passed;
-      by-rest = λ at g k h x e. absurd (refused≢done e);
-      by-head = λ at g k last h x e. absurd (refused≢done e);
-      reads = λ at g k last passed h x e.
+      by-rest = λ at g k end h x e. absurd (refused≢done e);
+      by-head = λ at g k end last h x e. absurd (refused≢done e);
+      reads = λ at g k end last passed h x e.
           let same : g ≡ x = cc in
           rw (← same) (record { ranged = started g k passed; head = heads g h });
-      runs-out = λ at g k x e. absurd (refused≢done e);
+      runs-out = λ at g k beyond x e. absurd (refused≢done e);
     }
-
-pub walked : (left : ℕ) (file : List ℕ) (at : ℕ) (g x : PushdownGame) → SoFar g → walk left file at g ≡ done x → Good x
-walked left file at g x k e = of-walk file (λ at g. SoFar g) GoodIn (good-answers file) left at g k x e
 
 -- A game that was read is good.
 pub good : (file : List ℕ) (g : PushdownGame) → reading file ≡ done g → Good g

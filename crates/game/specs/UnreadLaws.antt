@@ -112,10 +112,10 @@ module _ (file : List ℕ) where
         by-command = λ at next g command i found h. by-other (ask g command) at (ask-other g command);
         goes-on = λ at next g command i found passed h.
             (i .0, (i .1 .0 ++ (command ∷ []), comes-on file 0 emptyGame (i .1 .0) at g (i .1 .1) command next found passed h));
-        by-rest = λ at g i h. by-other 8 at (other 8 refl refl);
-        by-head = λ at g i last h. by-other 9 at (other 9 refl refl);
-        reads = λ at g i last passed h. by-game g;
-        runs-out = λ at g i. by-other 8 (length file) (other 8 refl refl);
+        by-rest = λ at g i end h. by-other 8 at (other 8 refl refl);
+        by-head = λ at g i end last h. by-other 9 at (other 9 refl refl);
+        reads = λ at g i end last passed h. by-game g;
+        runs-out = λ at g i beyond. by-other 8 (length file) (other 8 refl refl);
       })
       (by-other 1 0 (other 1 refl refl))
       (λ some few. (few, ([], (refl, refl))))

@@ -13,7 +13,7 @@ use Rattle.game.specs.Limits.{maxFile}
 use Rattle.game.specs.Game.{PushdownGame, emptyGame}
 use Rattle.game.specs.Outcome.{Outcome, done, refused}
 use Rattle.game.specs.Command.{commandAt}
-use Rattle.game.specs.CommandLaws.{some-bytes, found-inside, found-to}
+use Rattle.game.specs.CommandLaws.{found-inside, found-further}
 use Rattle.game.specs.Questions.{ask, askFound, add, everyHead, ending, taken, met, walk, reading}
 use Rattle.game.specs.ListLaws.{test}
 use Rattle.game.specs.declared.command.Command.{Command}
@@ -36,6 +36,10 @@ comes-on file at g [] to h (e, f) c next found passed other = (next, rw e found,
 comes-on file at g (d ∷ cs) to h (n, stands, asked, not-end, rest) c next found passed other =
     (n, stands, asked, not-end, comes-on file n (add g d) cs to h rest c next found passed other)
 
+-- FF stands at an offset
+abbrev pub EndAt : List ℕ → ℕ → Type 0
+EndAt file at = (next : ℕ) × (commandAt file at ≡ Next End next)
+
 -- X holds of each answer that the walk can give. I is what holds where it stands: of the offset and the game so far.
 pub record Answers (file : List ℕ) (I : ℕ → PushdownGame → Type 0) (X : Outcome PushdownGame → Type 0) : Type 0 where
   -- 2 and 19
@@ -47,42 +51,42 @@ pub record Answers (file : List ℕ) (I : ℕ → PushdownGame → Type 0) (X : 
   pub goes-on : (at next : ℕ) (g : PushdownGame) (command : Command) → I at g → commandAt file at ≡ Next command next → ask g command ≡ 0
       → (command ≡ End → ⊥) → I next (add g command)
   -- at FF: 8, 9, and the game
-  pub by-rest : (at : ℕ) (g : PushdownGame) → I at g → (at + 1 ≡ length file → ⊥) → X (refused 8 at)
-  pub by-head : (at : ℕ) (g : PushdownGame) → I at g → at + 1 ≡ length file → everyHead (g .control) (g .letters) (g .rules) ≡ false
-      → X (refused 9 at)
-  pub reads : (at : ℕ) (g : PushdownGame) → I at g → at + 1 ≡ length file → ask g End ≡ 0
+  pub by-rest : (at : ℕ) (g : PushdownGame) → I at g → EndAt file at → (at + 1 ≡ length file → ⊥) → X (refused 8 at)
+  pub by-head : (at : ℕ) (g : PushdownGame) → I at g → EndAt file at → at + 1 ≡ length file
+      → everyHead (g .control) (g .letters) (g .rules) ≡ false → X (refused 9 at)
+  pub reads : (at : ℕ) (g : PushdownGame) → I at g → EndAt file at → at + 1 ≡ length file → ask g End ≡ 0
       → everyHead (g .control) (g .letters) (g .rules) ≡ true → X (done g)
   -- 8 without FF
-  pub runs-out : (at : ℕ) (g : PushdownGame) → I at g → X (refused 8 (length file))
+  pub runs-out : (at : ℕ) (g : PushdownGame) → I at g → length file ≤ at → X (refused 8 (length file))
 
 module _ (file : List ℕ) (I : ℕ → PushdownGame → Type 0) (X : Outcome PushdownGame → Type 0) (answers : Answers file I X) where
-  at-end : (at : ℕ) (g : PushdownGame) → I at g → ask g End ≡ 0 → X (ending (length file) at g)
+  at-end : (at : ℕ) (g : PushdownGame) → I at g → EndAt file at → ask g End ≡ 0 → X (ending (length file) at g)
   unfolding ending
-  at-end at g i passed =
+  at-end at g i end passed =
       let heads = everyHead (g .control) (g .letters) (g .rules) in
       ⊎-elim
       (λ (p : eqb (at + 1) (length file) ≡ true).
       let last = eqb-true (at + 1) (length file) p in
       ⊎-elim
-      (λ (q : heads ≡ true). rw (p, q) (answers .reads at g i last passed q))
-      (λ (q : heads ≡ false). rw (p, q) (answers .by-head at g i last q))
+      (λ (q : heads ≡ true). rw (p, q) (answers .reads at g i end last passed q))
+      (λ (q : heads ≡ false). rw (p, q) (answers .by-head at g i end last q))
       (test heads))
-      (λ (p : eqb (at + 1) (length file) ≡ false). rw p (answers .by-rest at g i (eqb-false (at + 1) (length file) p)))
+      (λ (p : eqb (at + 1) (length file) ≡ false). rw p (answers .by-rest at g i end (eqb-false (at + 1) (length file) p)))
       (test (eqb (at + 1) (length file)))
 
-  at-taken : (at : ℕ) (g : PushdownGame) → I at g → (command : Command) → ask g command ≡ 0 → (rest : Outcome PushdownGame)
-      → ((command ≡ End → ⊥) → X rest) → X (taken (length file) at g command rest)
+  at-taken : (at next : ℕ) (g : PushdownGame) → I at g → (command : Command) → commandAt file at ≡ Next command next → ask g command ≡ 0
+      → (rest : Outcome PushdownGame) → ((command ≡ End → ⊥) → X rest) → X (taken (length file) at g command rest)
   unfolding taken
-  at-taken at g i (Sizes p s l) passed rest on = on (λ e. let z : _≡_ {A = ℕ} 0 1 = cc in omega arith)
-  at-taken at g i (Abelard p) passed rest on = on (λ e. let z : _≡_ {A = ℕ} 0 1 = cc in omega arith)
-  at-taken at g i (Final q) passed rest on = on (λ e. let z : _≡_ {A = ℕ} 0 1 = cc in omega arith)
-  at-taken at g i (Rule p a q k b c) passed rest on = on (λ e. let z : _≡_ {A = ℕ} 0 1 = cc in omega arith)
-  at-taken at g i (Target q a set) passed rest on = on (λ e. let z : _≡_ {A = ℕ} 0 1 = cc in omega arith)
-  at-taken at g i End passed rest on = at-end at g i passed
+  at-taken at next g i (Sizes p s l) found passed rest on = on (λ e. let z : _≡_ {A = ℕ} 0 1 = cc in omega arith)
+  at-taken at next g i (Abelard p) found passed rest on = on (λ e. let z : _≡_ {A = ℕ} 0 1 = cc in omega arith)
+  at-taken at next g i (Final q) found passed rest on = on (λ e. let z : _≡_ {A = ℕ} 0 1 = cc in omega arith)
+  at-taken at next g i (Rule p a q k b c) found passed rest on = on (λ e. let z : _≡_ {A = ℕ} 0 1 = cc in omega arith)
+  at-taken at next g i (Target q a set) found passed rest on = on (λ e. let z : _≡_ {A = ℕ} 0 1 = cc in omega arith)
+  at-taken at next g i End found passed rest on = at-end at g i (next, found) passed
 
   at-met : (at : ℕ) (g : PushdownGame) → I at g → at < length file → (found : Found) → commandAt file at ≡ found
-      → (rest : ℕ → PushdownGame → Outcome PushdownGame) → ((next : ℕ) (grown : PushdownGame) → I next grown → X (rest next grown))
-      → X (met (length file) at g found rest)
+      → (rest : ℕ → PushdownGame → Outcome PushdownGame)
+      → ((next : ℕ) (grown : PushdownGame) → at < next → I next grown → X (rest next grown)) → X (met (length file) at g found rest)
   unfolding met askFound
   at-met at g i inside Missing found rest on = answers .by-end at g i inside found
   at-met at g i inside Unknown found rest on = answers .by-byte at g i inside found
@@ -91,19 +95,21 @@ module _ (file : List ℕ) (I : ℕ → PushdownGame → Type 0) (X : Outcome Pu
       (λ (p : eqb (ask g command) 0 ≡ true).
       let passed = eqb-true (ask g command) 0 p in
       rw p
-      (at-taken at g i command passed (rest next (add g command))
-      (λ other. on next (add g command) (answers .goes-on at next g command i found passed other))))
+      (at-taken at next g i command found passed (rest next (add g command))
+      (λ other. on next (add g command) (found-further file at command next found) (answers .goes-on at next g command i found passed other))))
       (λ (p : eqb (ask g command) 0 ≡ false). rw p (answers .by-command at next g command i found (eqb-false (ask g command) 0 p)))
       (test (eqb (ask g command) 0))
 
-  pub of-walk : (left at : ℕ) (g : PushdownGame) → I at g → X (walk left file at g)
+  at-walk : (left at : ℕ) (g : PushdownGame) → length file ≤ at + left → I at g → X (walk left file at g)
   unfolding walk
-  of-walk zero at g i = answers .runs-out at g i
-  of-walk (suc left) at g i =
+  at-walk zero at g enough i = answers .runs-out at g i (omega (arith, enough))
+  at-walk (suc left) at g enough i =
       ⊎-elim
       (λ (p : ltb at (length file) ≡ true).
-      rw p (at-met at g i (ltb-true at (length file) p) (commandAt file at) refl (walk left file) (λ next grown. of-walk left next grown)))
-      (λ (p : ltb at (length file) ≡ false). rw p (answers .runs-out at g i))
+      rw p
+      (at-met at g i (ltb-true at (length file) p) (commandAt file at) refl (walk left file)
+      (λ next grown further. at-walk left next grown (omega (arith, enough, further)))))
+      (λ (p : ltb at (length file) ≡ false). rw p (answers .runs-out at g i (ltb-false at (length file) p)))
       (test (ltb at (length file)))
 
   -- with question 1, after which the walk begins
@@ -116,12 +122,12 @@ module _ (file : List ℕ) (I : ℕ → PushdownGame → Type 0) (X : Outcome Pu
       ⊎-elim
       (λ (q : ltb maxFile (length file) ≡ true). rw (p, q) short)
       (λ (q : ltb maxFile (length file) ≡ false).
-      rw (p, q) (of-walk (length file) 0 emptyGame (starts (ltb-false (length file) 1 p) (ltb-false maxFile (length file) q))))
+      rw (p, q) (at-walk (length file) 0 emptyGame (omega arith) (starts (ltb-false (length file) 1 p) (ltb-false maxFile (length file) q))))
       (test (ltb maxFile (length file))))
       (test (ltb (length file) 1))
 
 module _ (file : List ℕ) where
-  not-end : (at : ℕ) (g : PushdownGame) (c : Command) (rest : Outcome PushdownGame) → (c ≡ End → ⊥) → taken (length file) at g c rest ≡ rest
+  pub not-end : (at : ℕ) (g : PushdownGame) (c : Command) (rest : Outcome PushdownGame) → (c ≡ End → ⊥) → taken (length file) at g c rest ≡ rest
   unfolding taken
   not-end at g (Sizes p s l) rest other = refl
   not-end at g (Abelard p) rest other = refl
@@ -130,16 +136,21 @@ module _ (file : List ℕ) where
   not-end at g (Target q a set) rest other = refl
   not-end at g End rest other = absurd (other refl)
 
+  -- one turn of the walk, within the file
+  pub turn : (left at : ℕ) (g : PushdownGame) → at < length file → length file ≤ at + left
+      → (m : ℕ) × (left ≡ suc m) × (walk left file at g ≡ met (length file) at g (commandAt file at) (walk m file))
+  unfolding walk
+  turn zero at g inside enough = absurd (omega (arith, inside, enough))
+  turn (suc left) at g inside enough = (left, refl, rw (lt-ltb at (length file) inside))
+
   -- one command is passed
-  turn : (left at : ℕ) (g : PushdownGame) (c : Command) (next : ℕ) → length file ≤ at + left → commandAt file at ≡ Next c next → ask g c ≡ 0
+  passes : (left at : ℕ) (g : PushdownGame) (c : Command) (next : ℕ) → length file ≤ at + left → commandAt file at ≡ Next c next → ask g c ≡ 0
       → (c ≡ End → ⊥) → (m : ℕ) × (length file ≤ next + m) × (walk left file at g ≡ walk m file next (add g c))
-  unfolding walk met
-  turn zero at g c next enough found passed other = absurd (let i = found-inside file at c next found in omega (arith, i, enough))
-  turn (suc left) at g c next enough found passed other =
-      let inside = found-inside file at c next found in
-      let further = found-to file at c next found in
-      let some = some-bytes c in
-      (left, omega (arith, enough, further, some), rw (lt-ltb at (length file) inside, found, passed) (not-end at g c (walk left file next (add g c)) other))
+  unfolding met
+  passes left at g c next enough found passed other =
+      let t = turn left at g (found-inside file at c next found) enough in
+      let further = found-further file at c next found in
+      (t .0, omega (arith, enough, further, t .1), t .2 ∙ rw (found, passed) (not-end at g c (walk (t .0) file next (add g c)) other))
 
   -- The walk comes to an offset: what it says from there is what it says of the file.
   comes-walk : (cs : List Command) (left at : ℕ) (g : PushdownGame) (to : ℕ) (h : PushdownGame) → length file ≤ at + left → Comes file at g cs to h
@@ -147,15 +158,9 @@ module _ (file : List ℕ) where
   unfolding Comes
   comes-walk [] left at g to h enough (e, f) = (left, rw (← e) enough, rw (e, f))
   comes-walk (c ∷ cs) left at g to h enough (next, found, passed, other, rest) =
-      let t = turn left at g c next enough found passed other in
+      let t = passes left at g c next enough found passed other in
       let u = comes-walk cs (t .0) next (add g c) to h (t .1) rest in
       (u .0, u .1, t .2 ∙ u .2)
-
-  step : (left at : ℕ) (g : PushdownGame) → at < length file → length file ≤ at + left
-      → (m : ℕ) × (walk left file at g ≡ met (length file) at g (commandAt file at) (walk m file))
-  unfolding walk
-  step zero at g inside enough = absurd (omega (arith, inside, enough))
-  step (suc left) at g inside enough = (left, rw (lt-ltb at (length file) inside))
 
   -- Where the walk comes to an offset within the file, reading is what the walk says of what is found there.
   pub reading-there : 1 ≤ length file → length file ≤ maxFile → (cs : List Command) (at : ℕ) (g : PushdownGame) → Comes file 0 emptyGame cs at g
@@ -163,5 +168,5 @@ module _ (file : List ℕ) where
   unfolding reading walk
   reading-there some few cs at g comes inside =
       let there = comes-walk cs (length file) 0 emptyGame at g (omega arith) comes in
-      let here = step (there .0) at g inside (there .1) in
-      (here .0, rw (le-ltb (length file) 1 some, le-ltb maxFile (length file) few) (there .2 ∙ here .1))
+      let here = turn (there .0) at g inside (there .1) in
+      (here .0, rw (le-ltb (length file) 1 some, le-ltb maxFile (length file) few) (there .2 ∙ here .2))
