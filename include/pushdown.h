@@ -68,7 +68,7 @@ extern "C" {
  * number is raised where something is only added. CHANGELOG.md says what each
  * version changed. */
 
-#define PUSHDOWN_VERSION_MAJOR 2u
+#define PUSHDOWN_VERSION_MAJOR 3u
 #define PUSHDOWN_VERSION_MINOR 0u
 #define PUSHDOWN_VERSION (PUSHDOWN_VERSION_MAJOR * 65536u + PUSHDOWN_VERSION_MINOR)
 
@@ -83,6 +83,7 @@ extern "C" {
 #define PUSHDOWN_MAX_ENTRIES 2048u /* entries of a table */
 #define PUSHDOWN_MAX_ROUNDS 40u    /* rounds */
 #define PUSHDOWN_MAX_STACK 256u    /* letters of a stack */
+#define PUSHDOWN_MAX_BOUND (PUSHDOWN_MAX_STACK * ((UINT64_C(1) << PUSHDOWN_MAX_ROUNDS) - 1)) /* a judged bound, in moves */
 
 /* Lengths of buffers, in their elements. */
 
@@ -125,7 +126,10 @@ extern "C" {
 #define PUSHDOWN_REFUSED_TABLE 13u    /* Is the table well formed? [index of the first entry that fails; 0 for the length] */
 #define PUSHDOWN_REFUSED_POSITION 14u /* Are there 2 to 257 position bytes, in form? [index of the first byte that breaks it;
                                          0 for the length, and always 0 for a session] */
-#define PUSHDOWN_REFUSED_BOUND 15u    /* Is the bound below 2^50? [0] It always is: no call is refused by this. */
+
+/* 15 is not used, and will not be used again: it was for a bound that is too
+ * large, and no judged bound is above PUSHDOWN_MAX_BOUND, whatever the file,
+ * the table and the position. A caller needs no handler for it. */
 
 /* Moving, after 1 to 9, 19 and 14. */
 #define PUSHDOWN_REFUSED_RULE 16u   /* Is the rule one of this head? [0] */
@@ -158,7 +162,7 @@ extern "C" {
 
 #define PUSHDOWN_JUDGE_KIND 1  /* the kind of verdict */
 #define PUSHDOWN_JUDGE_RULE 2  /* the advised rule's number, from 0; 0 unless PUSHDOWN_ELOISE */
-#define PUSHDOWN_JUDGE_BOUND 3 /* the bound, in moves; 0 unless PUSHDOWN_ELOISE or PUSHDOWN_ABELARD */
+#define PUSHDOWN_JUDGE_BOUND 3 /* the bound, 1 to PUSHDOWN_MAX_BOUND moves; 0 unless PUSHDOWN_ELOISE or PUSHDOWN_ABELARD */
 
 /*
  * The version of the library: major * 65536 + minor. A caller that was compiled
@@ -198,7 +202,7 @@ uint32_t pushdown_solve(const uint8_t *file, size_t file_len, uint32_t *table, s
                         size_t work_len, uint64_t *out, size_t out_len);
 
 /*
- * Judges a position over a table: questions 1 to 9 and 19, then 13, 14, 15.
+ * Judges a position over a table: questions 1 to 9 and 19, then 13, 14.
  *
  * file      bytes, any number of them; not written.
  * table     words, three an entry, unused entries (all zero) last; not written.

@@ -369,7 +369,7 @@ fn run_worth(below: &[Option<u64>], (birthdate, set): (u32, Set)) -> Option<u64>
     Some((1u64 << birthdate) - 1 + largest)
 }
 
-/// The file's questions and 13 to 15, and the verdict.
+/// The file's questions, 13 and 14, and the verdict.
 pub fn judge(file: &[u8], table: &[u32], position: &[u8]) -> Result<Verdict, Refusal> {
     let game = read(file)?;
     let entries = table_of(&game, table)?;
@@ -378,9 +378,7 @@ pub fn judge(file: &[u8], table: &[u32], position: &[u8]) -> Result<Verdict, Ref
     let Some(bound) = worths(&game, &entries, stack)[state as usize] else {
         return Ok(Verdict::Lost);
     };
-    if bound >= 1 << 50 {
-        return refuse(15, 0);
-    }
+    assert!(bound < 1 << 48, "document 02, 5: no judged bound reaches 2^48");
     if bound == 0 {
         return Ok(Verdict::Target);
     }

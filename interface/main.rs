@@ -1,8 +1,8 @@
 //! The interface test: libpushdown.a held against an implementation of documents 01 and 02 written apart (`apart.rs`), through the
 //! four functions of the C interface, for every word and byte that they return, leave or must not touch.
 //!
-//! What is tried: the samples of document 01 and its edges; every cut of every sample file; files that end within a command or have
-//! an unknown one, with what must be answered; seeded damages of the sample files; seeded small and wide games. Each file goes
+//! What is tried: the samples of document 01 and its edges; judgements up to the largest bound, over tables from elsewhere; every cut
+//! of every sample file; files that end within a command or have an unknown one, with what must be answered; seeded damages of the sample files; seeded small and wide games. Each file goes
 //! through every function, with tables from the solver, damaged tables and garbage, positions and sessions in form and damaged, rule
 //! numbers in and out of range, areas of good and of wrong lengths. Every call is made twice. What was in an area before is garbage.
 //!
@@ -210,6 +210,32 @@ fn stated() -> [(usize, &'static [u8], Verdict); 9] {
     ]
 }
 
+/// Judgements up to the largest bound, with what documents 01 and 02 state of them: sample D with one letter above the bottom, its control
+/// state Éloise's and then Abelard's, over a table from elsewhere whose two entries have birthdate 40, so that each letter is worth
+/// 2^40 - 1. Stacks of 1, 2, 255 and 256 letters; 257, which are refused; and a table of birthdate 41, which is refused.
+fn largest() -> Vec<(Vec<u8>, Vec<u32>, Vec<u8>, Result<Verdict, Refusal>)> {
+    let most = (1 << 40) - 1;
+    let mut cases = vec![];
+    for owner in [&[][..], &[0x02, 0]] {
+        let file =
+            [&[0x01, 1, 2, 2], owner, &[0x03, 1, 0x04, 0, 0, 0, 1, 0, 0, 0x04, 0, 1, 0, 0, 0, 0, 0x05, 0, 0, 2, 0, 0, 0, 0xFF]].concat();
+        let fields = if owner.is_empty() { [1, 2] } else { [0, 0] };
+        let table = vec![65_536 * 40, 2, fields[0], 256 + 65_536 * 40, 1, fields[1]];
+        let verdict = |rule, bound| if owner.is_empty() { Verdict::Eloise { rule, bound } } else { Verdict::Abelard { bound } };
+        for letters in [1, 2, 255, 256] {
+            let position = [&[0], &vec![1; letters - 1][..], &[0]].concat();
+            let rule = (letters > 1) as usize;
+            cases.push((file.clone(), table.clone(), position, Ok(verdict(rule, letters as u64 * most))));
+        }
+        let position = [&[0], &[1; 256][..], &[0]].concat();
+        cases.push((file.clone(), table.clone(), position, Err(Refusal { number: 14, place: 0 })));
+        // One round more than there are: the first of the two entries is refused.
+        let later = vec![65_536 * 41, 2, fields[0], 256 + 65_536 * 41, 1, fields[1]];
+        cases.push((file, later, vec![0, 1, 0], Err(Refusal { number: 13, place: 0 })));
+    }
+    cases
+}
+
 /// The edges of document 01 as files: 4,096 and 4,097 bytes, 256 and 257 rules, 256 and 257 target transitions.
 fn edges(sample: &[u8]) -> Vec<Vec<u8>> {
     let mut files = vec![];
@@ -327,6 +353,16 @@ fn main() -> ExitCode {
         assert_eq!(apart::judge(&samples[sample], &tables[sample], position), Ok(verdict), "document 01 states it");
         test.judge(&samples[sample], &tables[sample], position, JUDGE_WORDS);
     }
+    let largest_bounds = largest();
+    let mut largest_bound = 0;
+    for (file, table, position, answer) in &largest_bounds {
+        let judged = apart::judge(file, table, position);
+        assert_eq!(judged, *answer, "documents 01 and 02 state it of the largest bound");
+        if let Ok(Verdict::Eloise { bound, .. } | Verdict::Abelard { bound }) = judged {
+            largest_bound = bound.max(largest_bound);
+        }
+        test.judge(file, table, position, JUDGE_WORDS);
+    }
     let refused = apart::solve(&samples[4], LONGEST, LONGEST).map(|_| ());
     assert_eq!(refused, Err(Refusal { number: 12, place: 41 }), "document 01 states it of 41 letters");
     let unread_files = unread(&samples[0]);
@@ -384,6 +420,7 @@ fn main() -> ExitCode {
         test.solved_long,
         LONG / 3
     );
+    println!("judgements up to the largest bound {}, the largest {largest_bound}", largest_bounds.len());
     for (function, name) in calls::NAMES.iter().enumerate() {
         let (tried, differed) = (test.calls.tried[function], test.calls.differed[function]);
         if cfg!(apart_only) {

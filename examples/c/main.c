@@ -39,7 +39,6 @@ static const char *cause(uint32_t number)
     case PUSHDOWN_REFUSED_UNSETTLED: return "not settled after 40 rounds";
     case PUSHDOWN_REFUSED_TABLE: return "a table that is not well formed";
     case PUSHDOWN_REFUSED_POSITION: return "a position that is not in form";
-    case PUSHDOWN_REFUSED_BOUND: return "the bound";
     case PUSHDOWN_REFUSED_RULE: return "not a rule of this head";
     case PUSHDOWN_REFUSED_HEIGHT: return "the new stack is too high";
     case PUSHDOWN_WRONG_LENGTH: return "an area of the wrong length";

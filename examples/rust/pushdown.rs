@@ -58,8 +58,6 @@ pub enum Question {
     Table,
     /// 14. Are there 2 to 257 position bytes, in form?
     Position,
-    /// 15. Is the bound below 2^50?
-    Bound,
     /// 16. Is the rule one of this head?
     Rule,
     /// 17. Is the new stack at most 256 letters?
@@ -86,7 +84,6 @@ impl Question {
             12 => Question::Unsettled,
             13 => Question::Table,
             14 => Question::Position,
-            15 => Question::Bound,
             16 => Question::Rule,
             17 => Question::Height,
             _ => Question::Unknown(number),

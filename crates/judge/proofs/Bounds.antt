@@ -6,11 +6,11 @@ use mathlib.Core.List.{List, _∷_}
 use mathlib.Core.Option.{Option, none, some}
 use native.Mathlib.Omega.{arith}
 use lib.ListN.{length, getD, drop, take, length-drop}
-use borrow.Author.Tests.{lt-ltb, le-ltb, eq-eqb, ne-eqb}
+use borrow.Author.Tests.{eq-eqb, ne-eqb}
 use Rattle.game.specs.Sets.{has}
 use Rattle.game.specs.ListLaws.{_∈_}
 use Rattle.game.specs.Game.{PushdownGame}
-use Rattle.game.specs.Outcome.{done, refused}
+use Rattle.game.specs.Outcome.{done}
 use Rattle.game.specs.Stored.{sizesOf}
 use Rattle.game.specs.Win.{isAbelard}
 use Rattle.game.specs.declared.game.Sizes.{Sizes}
@@ -88,39 +88,37 @@ module _ (g : PushdownGame) (sizes : Sizes) (e : sizes ≡ sizesOf g) (es : List
   unfolding bound verdict verdictOver
   by-bound x y = ap (verdict g es p) (top-letter w (λ z. omega arith)) ∙ rw y
 
-  pub is-lost : number ≡ 18446744073709551615 → done (lost 0) ≡ verdict g es p w
+  pub is-lost : number ≡ 18446744073709551615 → done (lost 0) ≡ done (verdict g es p w)
   unfolding verdictOf
-  is-lost h = sym (by-bound none (coded-none held (sym is-code ∙ h)))
+  is-lost h = ap done (sym (by-bound none (coded-none held (sym is-code ∙ h))))
 
   module _ (n : number ≡ 18446744073709551615 → ⊥) where
-    strict : number < noWorth
+    pub strict : number < noWorth
     strict = let u = coded-up-to held in omega (arith, is-code)
 
     some-bound : bound ≡ some number
     some-bound = coded-some held (omega (arith, is-code, strict)) ∙ ap some (sym is-code)
 
-    pub is-over : 2 ^ 50 ≤ number → refused 15 0 ≡ verdict g es p w
+    pub is-target : number ≡ 0 → done target ≡ done (verdict g es p w)
     unfolding verdictOf
-    is-over h = sym (by-bound (some number) some-bound ∙ rw (le-ltb number (2 ^ 50) h))
+    is-target z = ap done (sym (by-bound (some number) some-bound ∙ rw (eq-eqb number 0 z)))
 
-    module _ (h : number < 2 ^ 50) where
-      pub is-target : number ≡ 0 → done target ≡ verdict g es p w
-      unfolding verdictOf
-      is-target z = sym (by-bound (some number) some-bound ∙ rw (lt-ltb number (2 ^ 50) h, eq-eqb number 0 z))
+    module _ (z : number ≡ 0 → ⊥) (owner : Bool) (o : owner ≡ has (sizes .abelard) p) where
+      owned : isAbelard g p ≡ owner
+      owned = sym (o ∙ ap (λ (s : Sizes). has (s .abelard) p) e)
 
-      module _ (z : number ≡ 0 → ⊥) (owner : Bool) (o : owner ≡ has (sizes .abelard) p) where
-        owned : isAbelard g p ≡ owner
-        owned = sym (o ∙ ap (λ (s : Sizes). has (s .abelard) p) e)
+      pub is-abelard : owner ≡ true → done (abelard number) ≡ done (verdict g es p w)
+      unfolding verdictOf toMove
+      is-abelard t = ap done (sym (by-bound (some number) some-bound ∙ rw (ne-eqb number 0 z, owned ∙ t)))
 
-        pub is-abelard : owner ≡ true → done (abelard number) ≡ verdict g es p w
-        unfolding verdictOf toMove
-        is-abelard t = sym (by-bound (some number) some-bound ∙ rw (lt-ltb number (2 ^ 50) h, ne-eqb number 0 z, owned ∙ t))
-
-        pub is-eloise : owner ≡ false → (field : ℕ) → field ≡ coded (leastOver (headRule (automatonOf sizes es) (worths (automatonOf sizes es) (drop 1 w)) p (getD w 0 0) number) es) → (rule : ℕ) → ((x : Option ℕ) → field ≡ coded x → Fielded x → rule ≡ orZero (fieldNumber x)) → ((x : Entry) → x ∈ es → x .rule < 2 ^ 32) → done (eloise rule number) ≡ verdict g es p w
-        unfolding verdictOf toMove adviceAt
-        is-eloise t field f rule r small =
-            let least : Option ℕ = leastOver (headRule (automatonOf (sizesOf g) es) (worths (automatonOf (sizesOf g) es) (drop 1 w)) p (getD w 0 0) number) es in
-            let q = f ∙ ap (λ (s : Sizes). coded (leastOver (headRule (automatonOf s es) (worths (automatonOf s es) (drop 1 w)) p (getD w 0 0) number) es)) e in
-            let told : rule ≡ orZero (fieldNumber least) = r least q (fielded (automatonOf (sizesOf g) es) (worths (automatonOf (sizesOf g) es) (drop 1 w)) p (getD w 0 0) number es small) in
-            ap (λ (k : ℕ). done (eloise k number)) told
-            ∙ sym (by-bound (some number) some-bound ∙ rw (lt-ltb number (2 ^ 50) h, ne-eqb number 0 z, owned ∙ t))
+      pub is-eloise : owner ≡ false → (field : ℕ)
+          → field ≡ coded (leastOver (headRule (automatonOf sizes es) (worths (automatonOf sizes es) (drop 1 w)) p (getD w 0 0) number) es)
+          → (rule : ℕ) → ((x : Option ℕ) → field ≡ coded x → Fielded x → rule ≡ orZero (fieldNumber x))
+          → ((x : Entry) → x ∈ es → x .rule < 2 ^ 32) → done (eloise rule number) ≡ done (verdict g es p w)
+      unfolding verdictOf toMove adviceAt
+      is-eloise t field f rule r small =
+          let least : Option ℕ = leastOver (headRule (automatonOf (sizesOf g) es) (worths (automatonOf (sizesOf g) es) (drop 1 w)) p (getD w 0 0) number) es in
+          let q = f ∙ ap (λ (s : Sizes). coded (leastOver (headRule (automatonOf s es) (worths (automatonOf s es) (drop 1 w)) p (getD w 0 0) number) es)) e in
+          let told : rule ≡ orZero (fieldNumber least) = r least q (fielded (automatonOf (sizesOf g) es) (worths (automatonOf (sizesOf g) es) (drop 1 w)) p (getD w 0 0) number es small) in
+          ap (λ (k : ℕ). done (eloise k number)) told
+          ∙ ap done (sym (by-bound (some number) some-bound ∙ rw (ne-eqb number 0 z, owned ∙ t)))

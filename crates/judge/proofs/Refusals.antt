@@ -11,7 +11,7 @@ use denote.Enum.Declared.{tagOf}
 use Rattle.game.specs.Game.{PushdownGame}
 use Rattle.game.specs.GoodGame.{Ranged}
 use Rattle.game.specs.ListLaws.{_∈_}
-use Rattle.game.specs.Outcome.{Outcome, done, refused, answer, said}
+use Rattle.game.specs.Outcome.{Outcome, done, refused, after, answer, said}
 use Rattle.game.specs.Position.{form}
 use Rattle.game.specs.Questions.{reading}
 use Rattle.game.specs.Stored.{sizesOf, Reports}
@@ -25,7 +25,7 @@ use Rattle.table.specs.Table.{entriesOf, tableForm}
 use Rattle.table.specs.FormLaws.{accepted, cond-done}
 use Rattle.table.specs.OrderLaws.{accepted-in-order}
 use Rattle.table.specs.Rows.{Sorted, UsedPart}
-use Rattle.judge.specs.Verdict.{Verdict, after, verdict, verdictOfBytes, judgingGame, judging}
+use Rattle.judge.specs.Verdict.{Verdict, verdict, verdictOfBytes, judgingGame, judging}
 use Rattle.judge.specs.PositionLaws.{cond-not}
 use Rattle.judge.proofs.Recursion.{below-top, top-letter}
 use Rattle.judge.specs.Judged.{judged, refusedAs}
@@ -73,12 +73,14 @@ module _ (g : PushdownGame) (words position : List ℕ) where
     no-position a f t = rw table-done (refusal-told (form (g .control) (g .letters) position) a (f ∙ sym (plain (form (g .control) (g .letters) position))) t _)
 
     -- both are passed: the verdict is that over the part of the table that is used
-    pub both-passed : form (g .control) (g .letters) position ≡ done tt → (part : List ℕ) → UsedPart words part → judgingGame g words position ≡ verdict g (entriesOf part) (getD position 0 0) (take (length position - 1) (drop 1 position))
+    pub both-passed : form (g .control) (g .letters) position ≡ done tt → (part : List ℕ) → UsedPart words part
+        → judgingGame g words position ≡ done (verdict g (entriesOf part) (getD position 0 0) (take (length position - 1) (drop 1 position)))
     unfolding judgingGame after verdictOfBytes
     both-passed f part u =
         rw (table-done, f, u .same (accepted-in-order g words table-done))
+        (ap done
         (ap (verdictOfBytes g (entriesOf words)) (top-letter position (λ z. omega (arith, in-bytes _ _ position f .many)))
-        ∙ ap (verdict g (entriesOf words) (getD position 0 0)) (sym (below-top position)))
+        ∙ ap (verdict g (entriesOf words) (getD position 0 0)) (sym (below-top position))))
 
 -- every used entry of a table in form was born within the rounds
 pub young : (g : PushdownGame) (words : List ℕ) → tableForm g words ≡ done tt → Young words

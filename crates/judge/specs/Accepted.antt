@@ -1,43 +1,38 @@
--- What the judge answers over a table that passes question 13: the rule it names is one of the position's head, and question 15
--- is never met.
-use Prim.Native.Nat.{ℕ, suc, _-_, _*_, _<_, _≤_}
-use native.Mathlib.Nat.{mul-le-mul-right}
+-- What the judge answers over a table that passes question 13: the rule it names is one of the position's head, and after 14 nothing
+-- refuses.
+use Prim.Native.Nat.{ℕ, _-_, _<_, _≤_}
 use native.Mathlib.Omega.{arith}
-use mathlib.Core.Path.{_≡_, refl, sym, _∙_, ap, ap₂}
+use mathlib.Core.Path.{_≡_, sym, _∙_, ap, ap₂}
 use mathlib.Core.Logic.{_⊎_, inl, inr, ⊎-elim}
 use mathlib.Core.Bool.{Bool, true, false, cond}
 use mathlib.Core.List.{List, [], _∷_}
 use mathlib.Core.Option.{Option, none, some}
-use lib.ListN.{length}
-use lib.Dec.{ltb, eqb}
-use borrow.Author.Tests.{lt-ltb, eqb-false}
-use Rattle.game.specs.Limits.{maxRounds, maxStack}
+use lib.Dec.{eqb}
+use borrow.Author.Tests.{eqb-false}
+use Rattle.game.specs.Limits.{maxRounds}
 use Rattle.game.specs.Game.{PushdownGame}
-use Rattle.game.specs.Outcome.{done}
+use Rattle.game.specs.Outcome.{done, after}
 use Rattle.game.specs.Position.{form}
 use Rattle.game.specs.Win.{isAbelard}
 use Rattle.table.specs.Table.{Entry, entriesOf, isEloise, isRuleOf, tableForm}
 use Rattle.game.specs.ListLaws.{_∈_, test}
 use Rattle.game.specs.SetLaws.{has-from}
-use Rattle.table.specs.FormLaws.{InForm, cond-done, accepted}
-use Rattle.judge.specs.Worth.{Automaton, automaton, baseWeight, entryWorth, stepWorth, worths, worth, adviceAt, entryOfHead}
+use Rattle.table.specs.FormLaws.{InForm}
+use Rattle.judge.specs.Worth.{automaton, baseWeight, entryWorth, stepWorth, worths, worth, adviceAt, entryOfHead}
 use Rattle.judge.specs.Within.{AtMost, exact, most-of, Within, worth-within, entry-within}
-use Rattle.judge.specs.Range.{WeightsUpTo, within-range, baseWeight-mono}
+use Rattle.judge.specs.Range.{WeightsUpTo, baseWeight-mono}
 use Rattle.judge.specs.Target.{head-is, zero-or-more, weight-zero}
-use Rattle.judge.specs.Advice.{head-within, within-head, advice}
-use Rattle.judge.specs.Verdict.{Verdict, lost, target, eloise, abelard, orZero, toMove, verdictOf, verdictOver, verdict, boundLimit, after, verdictOfBytes, judgingGame}
-use Rattle.judge.specs.PositionLaws.{bytes-short}
+use Rattle.judge.specs.Advice.{within-head, advice}
+use Rattle.judge.specs.Verdict.{target, eloise, abelard, orZero, toMove, verdictOf, verdictOver, verdict, verdictOfBytes, judgingGame}
 
 -- a verdict for Éloise is that of a bound above 0
-eloise-told : (abelards : Bool) (rule x : Option ℕ) (n b : ℕ) → verdictOf abelards rule x ≡ done (eloise n b)
+eloise-told : (abelards : Bool) (rule x : Option ℕ) (n b : ℕ) → verdictOf abelards rule x ≡ eloise n b
     → (x ≡ some b) × (0 < b) × (orZero rule ≡ n)
 unfolding verdictOf toMove
 eloise-told abelards rule none n b e = let z : _≡_ {A = ℕ} 0 1 = cc in absurd (omega arith)
-eloise-told abelards rule (some c) n b e =
-    let t = cond-done (ltb c boundLimit) (done (cond (eqb c 0) target (toMove abelards rule c))) 15 0 e in
-    moved abelards (test (eqb c 0)) (t .1)
+eloise-told abelards rule (some c) n b e = moved abelards (test (eqb c 0)) e
   where
-    moved : (o : Bool) → (eqb c 0 ≡ true) ⊎ (eqb c 0 ≡ false) → done (cond (eqb c 0) target (toMove o rule c)) ≡ done (eloise n b)
+    moved : (o : Bool) → (eqb c 0 ≡ true) ⊎ (eqb c 0 ≡ false) → cond (eqb c 0) target (toMove o rule c) ≡ eloise n b
         → (some c ≡ some b) × (0 < b) × (orZero rule ≡ n)
     moved o (inl u) d =
         let f : target ≡ eloise n b = cc in
@@ -59,36 +54,6 @@ AllInForm g table = (e : Entry) → e ∈ table → InForm g e
 -- birthdates are at most the limit
 pub weights : (g : PushdownGame) (table : List Entry) → AllInForm g table → WeightsUpTo (automaton g table) (baseWeight maxRounds)
 weights g table forms e m = baseWeight-mono (forms e m .date)
-
--- a bound on the stack of at most 256 letters is below 2^50
-pub below-limit : (g : PushdownGame) (table : List Entry) → AllInForm g table → (p a : ℕ) (rest : List ℕ) → suc (length rest) ≤ maxStack
-    → (b : ℕ) → stepWorth (automaton g table) (worths (automaton g table) rest) p a ≡ some b → b < boundLimit
-unfolding baseWeight
-below-limit g table forms p a rest short b e =
-    let A = automaton g table in
-    let k = baseWeight maxRounds in
-    let run = within-range A k (weights g table forms) (a ∷ rest) b p (head-within A a rest p b (exact e)) in
-    let most : b ≤ suc (length rest) * k = most-of e (within-head A a rest p (suc (length rest) * k) run) in
-    let top : suc (length rest) * k ≤ maxStack * k = mul-le-mul-right k short in
-    omega arith
-
--- 15 is never met
-pub fifteen : (g : PushdownGame) (table : List Entry) → AllInForm g table → (p : ℕ) (stack : List ℕ) → length stack ≤ maxStack
-    → (v : Verdict) × (verdict g table p stack ≡ done v)
-unfolding verdict verdictOver verdictOf
-fifteen g table forms p [] short = (lost 0, refl)
-fifteen g table forms p (a ∷ rest) short = answered (stepWorth A (worths A rest) p a) refl
-  where
-    A : Automaton
-    A = automaton g table
-
-    answered : (b : Option ℕ) → stepWorth A (worths A rest) p a ≡ b
-        → (v : Verdict) × (verdictOf (isAbelard g p) (adviceAt A (worths A rest) p a b) b ≡ done v)
-    answered none e = (lost 0, refl)
-    answered (some b) e = (
-      cond (eqb b 0) target (toMove (isAbelard g p) (adviceAt A (worths A rest) p a (some b)) b),
-      rw (lt-ltb b boundLimit (below-limit g table forms p a rest short b e)),
-    )
 
 module _ (g : PushdownGame) (table : List Entry) (forms : AllInForm g table) where
   -- a further state has transitions of birthdate 0 only, to further states only: its runs are worth 0
@@ -154,7 +119,7 @@ module _ (g : PushdownGame) (table : List Entry) (forms : AllInForm g table) whe
       )
 
   -- an Éloise verdict names a rule of the position's head
-  pub eloise-rule : (p a : ℕ) (rest : List ℕ) (n b : ℕ) → isEloise g p ≡ true → verdict g table p (a ∷ rest) ≡ done (eloise n b)
+  pub eloise-rule : (p a : ℕ) (rest : List ℕ) (n b : ℕ) → isEloise g p ≡ true → verdict g table p (a ∷ rest) ≡ eloise n b
       → isRuleOf g p a n ≡ true
   unfolding verdict verdictOver orZero
   eloise-rule p a rest n b owner e =
@@ -167,12 +132,8 @@ module _ (g : PushdownGame) (table : List Entry) (forms : AllInForm g table) whe
       in
       rw same (r .2)
 
--- After 13 and 14 no question refuses: 15 is never met over a table that passes 13.
+-- After 13 and 14 no question refuses.
 pub judged : (g : PushdownGame) (words position : List ℕ) → tableForm g words ≡ done tt
-    → form (g .control) (g .letters) position ≡ done tt → (v : Verdict) × (judgingGame g words position ≡ done v)
-unfolding judgingGame after verdictOfBytes
-judged g words [] t f = (lost 0, rw (t, f))
-judged g words (p ∷ stack) t f =
-    let short = bytes-short (g .control) (g .letters) (p ∷ stack) f in
-    let r = fifteen g (entriesOf words) (accepted g words t) p stack (omega arith) in
-    (r .0, rw (t, f) (r .1))
+    → form (g .control) (g .letters) position ≡ done tt → judgingGame g words position ≡ done (verdictOfBytes g (entriesOf words) position)
+unfolding judgingGame after
+judged g words position t f = rw (t, f)

@@ -1,4 +1,4 @@
-// Judging a position over a table: the file's questions, 13 and 14, then the verdict with 15.
+// Judging a position over a table: the file's questions, 13 and 14, then the verdict.
 use crate::verdict::Verdict;
 use crate::verdict::verdict_on;
 use game::Answer;
@@ -46,7 +46,7 @@ pub fn judge_game(game: Game, table: &[u32], position: &[u8]) -> Verdict
     verdict_on(sizes, used_part(table), position[0], &position[1..])
 }
 
-// A refusal by a question before the verdict's own. It is called with a refusal only: its callers go on where the answer is done, so
+// A refusal by a question before the verdict. It is called with a refusal only: its callers go on where the answer is done, so
 // no call reaches the other arm, which is there because a match has all cases.
 fn refusal(answer: Answer) -> Verdict
     ensures { λ r. ⌜ r ≡ refusedAs answer ⌝ }

@@ -16,6 +16,7 @@ ghost use Prim.Native.Nat.{ℕ, _≤_, _<_, min};
 ghost use Rattle.game.specs.Limits.{maxStates, maxStack, maxRounds};
 ghost use lib.ListN.{length, getD};
 ghost use Rattle.game.specs.Game.{PushdownGame};
+ghost use Rattle.game.specs.Outcome.{done};
 ghost use Rattle.game.specs.Stored.{sizesOf};
 ghost use Rattle.table.specs.Table.{entryOf, entriesOf};
 ghost use Rattle.table.specs.Rows.{Sorted};
@@ -42,28 +43,19 @@ pub enum Verdict {
     Refused { question: u8, place: usize },
 }
 
-// 15: bounds are below this.
-const BOUND_LIMIT: u64 = 1125899906842624;
-
 // The verdict on control state `state` and a stack, top letter first, that are in form, over the used entries of a table in
 // form. What lies below the top is handed on as the part of the stack that it is; of the top letter only the head is asked.
 pub fn verdict_on(sizes: Sizes, table: &[u32], state: u8, stack: &[u8]) -> Verdict
     requires { ⌜ (state < sizes .states) × (sizes .states ≤ maxStates) × (0 < length (now stack)) × (length (now stack) ≤ maxStack)
         × Young (now table) × Sorted (now table) ⌝ }
     ensures { λ r. ⌜ ((g : PushdownGame) → sizes ≡ sizesOf g
-        → judged r ≡ verdictIs g (entriesOf (now (table .entry))) state (now (stack .entry))) ⌝ }
+        → judged r ≡ done (verdictIs g (entriesOf (now (table .entry))) state (now (stack .entry)))) ⌝ }
 {
     let top = stack[0];
     let below = worths(sizes, table, &stack[1..]);
     let bound = head_worth(table, state, top, sizes.states, &below);
     if bound == NONE {
         return Verdict::Lost { rule: 0 };
-    }
-    if BOUND_LIMIT <= bound {
-        return Verdict::Refused {
-            question: 15,
-            place: 0,
-        };
     }
     if bound == 0 {
         return Verdict::Target;

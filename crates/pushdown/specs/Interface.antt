@@ -21,7 +21,7 @@ wrongLength = 100
 -- The version: the major number is raised where a caller must change (a number, a layout or a limit), the minor one by what is only
 -- added.
 abbrev pub versionMajor : ℕ
-versionMajor = 2
+versionMajor = 3
 
 abbrev pub versionMinor : ℕ
 versionMinor = 0

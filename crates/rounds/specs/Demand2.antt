@@ -8,7 +8,7 @@ use mathlib.Core.List.{List, [], _∷_}
 use mathlib.Core.Option.{Option, none, some}
 use native.Mathlib.Omega.{arith}
 use lib.ListN.{length}
-use lib.Dec.{ltb, eqb}
+use lib.Dec.{eqb}
 use Rattle.game.specs.Limits.{maxRounds, maxStack}
 use Rattle.game.specs.Game.{Transition, PushdownGame}
 use Rattle.game.specs.Outcome.{done}
@@ -16,19 +16,17 @@ use Rattle.game.specs.Questions.{reading, bottomLast}
 use Rattle.game.specs.Win.{Position, inForm, isAbelard, Won}
 use Rattle.game.specs.ListLaws.{_∈_, clash}
 use Rattle.table.specs.Table.{Entry, tableWords}
-use Rattle.table.specs.FormLaws.{cond-done}
 use Rattle.judge.specs.Worth.{automaton, worths, stepWorth, adviceAt, bound}
 use Rattle.judge.specs.Within.{none-some, worth-cons}
 use Rattle.judge.specs.PositionLaws.{form-parts}
-use Rattle.judge.specs.Verdict.{Verdict, lost, target, eloise, abelard, toMove, boundLimit, verdictOf, verdictOver, verdict, judging}
-use Rattle.judge.specs.Accepted.{fifteen}
+use Rattle.judge.specs.Verdict.{Verdict, lost, target, eloise, abelard, toMove, verdictOf, verdictOver, verdict, judging}
 use Rattle.rounds.specs.Rounds.{targetEntry, settled}
 use Rattle.rounds.specs.Solving.{Solved, latest, solvingWords}
 use Rattle.table.specs.Pairwise.{Ascending}
 use Rattle.rounds.specs.RoundLaws.{roundTable, Born, zero-is, round-is, round-ranged}
 use Rattle.rounds.specs.SolvingLaws.{Unsettled}
 use Rattle.rounds.specs.Reported.{latest-is}
-use Rattle.rounds.specs.Solution.{done-same, solution, words-fill, sound, won-bound, judged-over}
+use Rattle.rounds.specs.Solution.{solution, words-fill, won-bound, judged-over}
 
 unfoldable pub isLost : Verdict → Bool
 isLost (lost rule) = true
@@ -69,24 +67,19 @@ not-lost false true rule b = refl
 not-lost false false rule b = refl
 
 -- a verdict is not lost exactly if there is a bound
-lost-is : (abelards : Bool) (rule x : Option ℕ) (v : Verdict) → verdictOf abelards rule x ≡ done v
-    → (isLost v ≡ false) ↔ ((b : ℕ) × (x ≡ some b))
+lost-is : (abelards : Bool) (rule x : Option ℕ) → (isLost (verdictOf abelards rule x) ≡ false) ↔ ((b : ℕ) × (x ≡ some b))
 unfolding verdictOf isLost
-lost-is abelards rule none v e =
-    let t : isLost v ≡ true = ap isLost (sym (done-same e)) in
-    (λ h. clash t h, λ b. absurd (none-some (b .1)))
-lost-is abelards rule (some b) v e =
-    let c = cond-done (ltb b boundLimit) (done (cond (eqb b 0) target (toMove abelards rule b))) 15 0 e in
-    (λ h. (b, refl), λ h. ap isLost (sym (done-same (c .1))) ∙ not-lost (eqb b 0) abelards rule b)
+lost-is abelards rule none = (λ h. clash refl h, λ b. absurd (none-some (b .1)))
+lost-is abelards rule (some b) = (λ h. (b, refl), λ h. not-lost (eqb b 0) abelards rule b)
 
-verdict-lost : (g : PushdownGame) (table : List Entry) (p : ℕ) (stack : List ℕ) (v : Verdict) → p < g .states → bottomLast stack ≡ true
-    → verdict g table p stack ≡ done v → (isLost v ≡ false) ↔ ((b : ℕ) × (bound g table p stack ≡ some b))
+verdict-lost : (g : PushdownGame) (table : List Entry) (p : ℕ) (stack : List ℕ) → p < g .states → bottomLast stack ≡ true
+    → (isLost (verdict g table p stack) ≡ false) ↔ ((b : ℕ) × (bound g table p stack ≡ some b))
 unfolding verdict verdictOver bottomLast
-verdict-lost g table p [] v l f e = clash f refl
-verdict-lost g table p (a ∷ rest) v l f e =
+verdict-lost g table p [] l f = clash f refl
+verdict-lost g table p (a ∷ rest) l f =
     let A = automaton g table in
     let x = stepWorth A (worths A rest) p a in
-    rw (worth-cons A a rest p l) (lost-is (isAbelard g p) (adviceAt A (worths A rest) p a x) x v e)
+    rw (worth-cons A a rest p l) (lost-is (isAbelard g p) (adviceAt A (worths A rest) p a x) x)
 
 pub demand-two : (file : List ℕ) (table work : ℕ) (s : Solved) → solvingWords file table work ≡ done s → Judges file table s
 demand-two file table work s e =
@@ -111,12 +104,12 @@ demand-two file table work s e =
       verdicts =
           λ pos f short.
           let h = form-parts (r .game) pos f in
-          let v = fifteen (r .game) (r .table) (sound (r .game) (r .good) (r .lent) (r .table) at .forms) (pos .state) (pos .stack) short in
+          let v = verdict (r .game) (r .table) (pos .state) (pos .stack) in
           let told = judged-over (r .game) (r .good) (r .lent) (r .table) at file (r .read) (r .form) (pos .state) (pos .stack) h short in
           let won = won-bound (r .game) (r .good) (r .lent) (r .table) at (pos .state) (pos .stack) h in
-          let bounded = verdict-lost (r .game) (r .table) (pos .state) (pos .stack) (v .0) (omega (arith, h .state, r .good .ranged .control)) (h .bottom) (v .1) in (
-            v .0,
-            ap (λ (x : Solved). judging file (x .words) (pos .state ∷ pos .stack)) (r .is) ∙ told ∙ v .1,
+          let bounded = verdict-lost (r .game) (r .table) (pos .state) (pos .stack) (omega (arith, h .state, r .good .ranged .control)) (h .bottom) in (
+            v,
+            ap (λ (x : Solved). judging file (x .words) (pos .state ∷ pos .stack)) (r .is) ∙ told,
             (λ n. won .1 (bounded .0 n), λ w. bounded .1 (won .0 w)),
           );
     }

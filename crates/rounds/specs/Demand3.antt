@@ -8,8 +8,7 @@ use mathlib.Core.Bool.{true, false}
 use mathlib.Core.List.{List, _∷_}
 use mathlib.Core.Option.{none, some}
 use lib.ListN.{length}
-use lib.Dec.{ltb}
-use borrow.Author.Tests.{lt-ltb, eq-eqb, ne-eqb}
+use borrow.Author.Tests.{eq-eqb, ne-eqb}
 use Rattle.game.specs.Limits.{maxStack}
 use Rattle.game.specs.Game.{PushdownGame}
 use Rattle.game.specs.Outcome.{Outcome, done}
@@ -21,8 +20,8 @@ use Rattle.judge.specs.Worth.{automaton, worths, stepWorth, adviceAt, bound, ad
 use Rattle.judge.specs.Within.{worth-cons}
 use Rattle.judge.specs.Target.{bound-zero}
 use Rattle.judge.specs.PositionLaws.{Formed, form-parts, parts-form}
-use Rattle.judge.specs.Verdict.{Verdict, target, eloise, abelard, toMove, orZero, boundLimit, verdictOf, verdictOver, verdict, judging}
-use Rattle.judge.specs.Accepted.{below-limit, advised-rule}
+use Rattle.judge.specs.Verdict.{Verdict, target, eloise, abelard, toMove, orZero, verdictOf, verdictOver, verdict, judging}
+use Rattle.judge.specs.Accepted.{advised-rule}
 use Rattle.judge.specs.Play.{play, heeded, start}
 use Rattle.rounds.specs.Solving.{Solved, solvingWords}
 use Rattle.rounds.specs.SolvingLaws.{SolvedAt}
@@ -76,12 +75,12 @@ pub record Plays (file : List ℕ) (s : Solved) : Type 0 where
 
 -- the verdict on Éloise's turn, the advised rule in hand
 eloise-told : (g : PushdownGame) (table : List Entry) (p a : ℕ) (rest : List ℕ) (b m : ℕ) → isAbelard g p ≡ false → 0 < b
-    → ltb b boundLimit ≡ true → stepWorth (automaton g table) (worths (automaton g table) rest) p a ≡ some b
+    → stepWorth (automaton g table) (worths (automaton g table) rest) p a ≡ some b
     → adviceAt (automaton g table) (worths (automaton g table) rest) p a (some b) ≡ some m
-    → (advised g table p a rest ≡ some m) × (verdict g table p (a ∷ rest) ≡ done (eloise m b))
+    → (advised g table p a rest ≡ some m) × (verdict g table p (a ∷ rest) ≡ eloise m b)
 unfolding verdict verdictOver verdictOf advised toMove orZero
-eloise-told g table p a rest b m o l small least rule =
-    (rw (least, rule), rw (least, small, ne-eqb b 0 (λ z. omega arith), o, rule))
+eloise-told g table p a rest b m o l least rule =
+    (rw (least, rule), rw (least, ne-eqb b 0 (λ z. omega arith), o, rule))
 
 module _ (g : PushdownGame) (good : Good g) (n : ℕ) (table : List Entry) (at : SolvedAt g n table) where
   keeps : (pos : Position) → inForm g pos ≡ true → (b : ℕ) → bound g table (pos .state) (pos .stack) ≡ some b → (numbers : List ℕ)
@@ -103,22 +102,21 @@ module _ (g : PushdownGame) (good : Good g) (n : ℕ) (table : List Entry) (at :
             bound-zero g table (h .holds) last (omega (arith, r .formed .state, good .ranged .control)) .0 (r .is ∙ ap some none);
       }
 
-  told : (p a : ℕ) (rest : List ℕ) → Formed g p (a ∷ rest) → suc (length rest) ≤ maxStack → (b : ℕ) → bound g table p (a ∷ rest) ≡ some b
-      → Reports g table p a rest b (verdict g table p (a ∷ rest))
+  told : (p a : ℕ) (rest : List ℕ) → Formed g p (a ∷ rest) → (b : ℕ) → bound g table p (a ∷ rest) ≡ some b
+      → Reports g table p a rest b (done (verdict g table p (a ∷ rest)))
   unfolding verdict verdictOver verdictOf advised toMove orZero
-  told p a rest f short b e =
+  told p a rest f b e =
       let A = automaton g table in
       let forms = sound g good n table at .forms in
       let least : stepWorth A (worths A rest) p a ≡ some b = sym (worth-cons A a rest p (omega (arith, f .state, good .ranged .control))) ∙ e in
-      let small = lt-ltb b boundLimit (below-limit g table forms p a rest short b least) in
       record {
-        targets = λ z. rw (least, small, eq-eqb b 0 z);
-        abelards = λ l o. rw (least, small, ne-eqb b 0 (λ z. omega arith), o);
+        targets = λ z. rw (least, eq-eqb b 0 z);
+        abelards = λ l o. rw (least, ne-eqb b 0 (λ z. omega arith), o);
         eloises =
             λ l o.
             let r = advised-rule g table forms p a rest b (is-eloise g p (f .state) o) least l in
-            let t = eloise-told g table p a rest b (r .0) o l small least (r .1) in
-            (r .0, t .0, r .2, t .1);
+            let t = eloise-told g table p a rest b (r .0) o l least (r .1) in
+            (r .0, t .0, r .2, ap done (t .1));
       }
 
 pub demand-three : (file : List ℕ) (table work : ℕ) (s : Solved) → solvingWords file table work ≡ done s → Plays file s
@@ -141,9 +139,9 @@ demand-three file table work s e =
       reports =
           λ p a rest f short b.
           let h = form-parts g (record { state = p; stack = a ∷ rest }) f in
-          let answer : judging file (s .words) (p ∷ a ∷ rest) ≡ verdict g (r .table) p (a ∷ rest) =
+          let answer : judging file (s .words) (p ∷ a ∷ rest) ≡ done (verdict g (r .table) p (a ∷ rest)) =
           ap (λ (x : Solved). judging file (x .words) (p ∷ a ∷ rest)) (r .is)
           ∙ judged-over g (r .good) (r .lent) (r .table) (r .at) file (r .read) (r .form) p (a ∷ rest) h short
           in
-          rw (same, answer) (λ k. told g (r .good) (r .lent) (r .table) (r .at) p a rest h short b k);
+          rw (same, answer) (λ k. told g (r .good) (r .lent) (r .table) (r .at) p a rest h b k);
     }

@@ -1,7 +1,7 @@
 -- A solved file: its game, its table, and that the table is a settled round whose words pass question 13.
 use Prim.Native.Nat.{ℕ, _-_, _*_, _/_, _%_, _≤_}
 use native.Mathlib.Omega.{arith}
-use mathlib.Core.Path.{_≡_, refl, sym, _∙_, ap, subst}
+use mathlib.Core.Path.{_≡_, sym, _∙_, ap, subst}
 use mathlib.Core.Logic.{_↔_}
 use mathlib.Core.Bool.{true, cond, _&&_}
 use mathlib.Core.List.{List, _∷_}
@@ -11,7 +11,8 @@ use lib.Dec.{leb, eqb}
 use borrow.Author.Tests.{eqb-true}
 use Rattle.game.specs.Limits.{maxEntries, maxStack}
 use Rattle.game.specs.Game.{PushdownGame}
-use Rattle.game.specs.Outcome.{Outcome, done, refused}
+use Rattle.game.specs.Outcome.{done, refused, after}
+use Rattle.game.specs.OutcomeLaws.{done-same, after-done}
 use Rattle.game.specs.Questions.{reading}
 use Rattle.game.specs.Win.{Won}
 use Rattle.game.specs.ListLaws.{both}
@@ -22,7 +23,7 @@ use Rattle.table.specs.FormLaws.{cond-done}
 use Rattle.judge.specs.Worth.{automaton, bound}
 use Rattle.judge.specs.Within.{within-worth}
 use Rattle.judge.specs.PositionLaws.{Formed, bytes-pass}
-use Rattle.judge.specs.Verdict.{after, verdict, verdictOfBytes, judgingGame, judging}
+use Rattle.judge.specs.Verdict.{verdict, verdictOfBytes, judgingGame, judging}
 use Rattle.rounds.specs.Solving.{Solved, solvedTable, solvedOf, solvingGame, solvingWords}
 use Rattle.rounds.specs.RoundLaws.{round-ranged}
 use Rattle.rounds.specs.Sound.{Sound, round-sound}
@@ -30,14 +31,6 @@ use Rattle.rounds.specs.Settled.{Closed, settled-closed, won-within}
 use Rattle.rounds.specs.PlayTheorem.{bound-won}
 use Rattle.table.specs.WordLaws.{form-bytes, words-entries, words-length, words-pass}
 use Rattle.rounds.specs.SolvingLaws.{SolvedAt, solved-at}
-
-pub done-same : {A : Type 0} {x y : A} → done x ≡ done y → x ≡ y
-done-same e = cc
-
-pub after-done : {A B : Type 0} (o : Outcome A) (f : A → Outcome B) {y : B} → after o f ≡ done y → (x : A) × (o ≡ done x) × (f x ≡ done y)
-unfolding after
-after-done (done x) f h = (x, refl, h)
-after-done (refused n k) f h = let z : _≡_ {A = ℕ} 0 1 = cc in absurd (omega arith)
 
 -- a length in form is that of whole entries
 pub in-entries : (n : ℕ) → lengthInForm n ≡ true → n ≡ entryStride * (n / entryStride)
@@ -113,7 +106,7 @@ module _ (g : PushdownGame) (goodgame : Good g) (n : ℕ) (table : List Entry) (
 
   -- so the judge's answer on a position in form of at most 256 letters is its verdict over that table
   pub judged-over : (file : List ℕ) → reading file ≡ done g → lengthInForm (entryStride * n) ≡ true → (p : ℕ) (stack : List ℕ) → Formed g p stack
-      → length stack ≤ maxStack → judging file (tableWords table (n - length table)) (p ∷ stack) ≡ verdict g table p stack
+      → length stack ≤ maxStack → judging file (tableWords table (n - length table)) (p ∷ stack) ≡ done (verdict g table p stack)
   unfolding judging judgingGame after verdictOfBytes
   judged-over file read form p stack f short =
       rw (read, words-well form, bytes-pass g p stack f short, entries-back)

@@ -1,4 +1,5 @@
--- Laws of the move: a played one is the rule's move on the position and keeps its form, a refused one changes nothing.
+-- Laws of the move: a played one is the rule's move on the position and keeps its form, a refused one changes nothing, and by which
+-- numbers it is refused.
 use Prim.Native.Nat.{ℕ, _-_, _≤_}
 use mathlib.Core.Path.{_≡_, refl, sym, ap, subst, _∙_}
 use mathlib.Core.Logic.{_⊎_, ⊎-elim}
@@ -12,9 +13,13 @@ use borrow.Author.Tests.{leb-true}
 use Rattle.game.specs.Limits.{maxStack}
 use Rattle.game.specs.Game.{Rule, PushdownGame, rulesOf}
 use Rattle.game.specs.Outcome.{Outcome, done, refused}
-use Rattle.game.specs.Questions.{reading}
+use Rattle.game.specs.Numbers.{fileNumbers, turnNumbers, moveNumbers}
+use Rattle.game.specs.OutcomeLaws.{RefusedBy, by-none, by-number, by-front, by-back}
+use Rattle.game.specs.Questions.{any, reading}
+use Rattle.game.specs.NumberLaws.{numberIs}
+use Rattle.game.specs.RefusalLaws.{file-numbers}
 use Rattle.game.specs.Stored.{padded}
-use Rattle.game.specs.ListLaws.{test, both, _∈_}
+use Rattle.game.specs.ListLaws.{test, of-either, both, _∈_}
 use Rattle.game.specs.GoodGame.{Good}
 use Rattle.game.specs.Reads.{good}
 use Rattle.game.specs.Win.{Position, inForm, successor}
@@ -150,3 +155,37 @@ refused-same file s n number place = of (movingIn (reading file) s n)
     of : (o : Outcome Position) → moved s o .answer ≡ refused number place → moved s o .session ≡ s
     of (done to) e = absurd (let z : _≡_ {A = ℕ} 0 1 = cc in omega arith)
     of (refused m q) e = refl
+
+numbered-numbers : (n : ℕ) (rules : List Rule) → RefusedBy turnNumbers (numbered n rules)
+unfolding numbered any
+numbered-numbers n [] = by-number turnNumbers 16 0 refl
+numbered-numbers n (r ∷ rs) = of-either (RefusedBy turnNumbers) (numberIs n r) (done r) (numbered n rs) (by-none turnNumbers r) (numbered-numbers n rs)
+
+replaced-numbers : (rest : List ℕ) (o : Outcome Rule) → RefusedBy turnNumbers o → RefusedBy turnNumbers (replaced rest o)
+unfolding replaced fitting any
+replaced-numbers rest (done r) h =
+    let to = successor r rest in
+    of-either (RefusedBy turnNumbers) (leb (length (to .stack)) maxStack) (done to) (refused 17 0) (by-none turnNumbers to) (by-number turnNumbers 17 0 refl)
+replaced-numbers rest (refused n k) h = by-number turnNumbers n k (h n k refl)
+
+turn-numbers : (g : PushdownGame) (p : ℕ) (stack : List ℕ) (n : ℕ) → RefusedBy turnNumbers (turn g p stack n)
+unfolding turn any
+turn-numbers g p [] n = by-number turnNumbers 16 0 refl
+turn-numbers g p (a ∷ rest) n = replaced-numbers rest (numbered n (rulesOf g p a)) (numbered-numbers n (rulesOf g p a))
+
+moving-numbers : (o : Outcome PushdownGame) (s : Session) (n : ℕ) → RefusedBy fileNumbers o → RefusedBy moveNumbers (movingIn o s n)
+unfolding movingIn moving any
+moving-numbers (done g) s n h =
+    by-back fileNumbers turnNumbers _
+    (of-either (RefusedBy turnNumbers) (sessionInForm g s) _ (refused 14 0) (turn-numbers g (s .state) (position s .stack) n)
+    (by-number turnNumbers 14 0 refl))
+moving-numbers (refused m p) s n h = by-number moveNumbers m p (by-front fileNumbers turnNumbers (refused m p) h m p refl)
+
+-- A move is refused by 1 to 9, 19, 14, 16 or 17.
+pub move-numbers : (file : List ℕ) (s : Session) (n : ℕ) → RefusedBy moveNumbers (move file s n .answer)
+unfolding move
+move-numbers file s n = answered (movingIn (reading file) s n) (moving-numbers (reading file) s n (file-numbers file))
+  where
+    answered : (o : Outcome Position) → RefusedBy moveNumbers o → RefusedBy moveNumbers (moved s o .answer)
+    answered (done pos) h = by-none moveNumbers tt
+    answered (refused m p) h = by-number moveNumbers m p (h m p refl)

@@ -15,7 +15,7 @@ use Rattle.game.proofs.game.Answer as AnswerIs
 use Rattle.game.specs.Game.{PushdownGame}
 use Rattle.game.specs.Held.{held}
 use Rattle.game.specs.GoodGame.{Good}
-use Rattle.game.specs.Outcome.{Outcome, done, refused, answer, said}
+use Rattle.game.specs.Outcome.{Outcome, done, refused, after, answer, said}
 use Rattle.game.specs.Questions.{reading}
 use Rattle.game.specs.Stored.{padded, stored, heldSizes, Reports}
 use Rattle.game.specs.declared.game.Game.{Game}
@@ -24,7 +24,6 @@ use Rattle.game.specs.declared.game.Reading.{Reading}
 use Rattle.game.specs.declared.game.Answer.{Answer}
 use Rattle.game.specs.declared.game.Answer.the-variants.{Done as AnswerDone, Refused as AnswerRefused}
 use Rattle.table.specs.Table.{lengthInForm, entryStride}
-use Rattle.judge.specs.Verdict.{after}
 use Rattle.rounds.specs.Solving.{Solved, solvingGame, solvingWords}
 use Rattle.rounds.specs.Solution.{in-entries}
 use Rattle.solver.specs.Leaving.{leaving, called, solveCall}

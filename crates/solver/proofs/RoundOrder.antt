@@ -12,10 +12,9 @@ use Rattle.game.specs.Limits.{maxRounds}
 use Rattle.game.specs.Game.{PushdownGame}
 use Rattle.game.specs.GoodGame.{Good}
 use Rattle.game.specs.ListLaws.{test, below-suc}
-use Rattle.game.specs.Outcome.{Outcome, done, refused}
+use Rattle.game.specs.Outcome.{done, refused, after}
 use Rattle.table.specs.Table.{Entry, tableWords}
 use Rattle.table.specs.Pairwise.{Ascending}
-use Rattle.judge.specs.Verdict.{after}
 use Rattle.rounds.specs.Rounds.{roundZero, nextRound, settled}
 use Rattle.rounds.specs.Solving.{fitting, roundsFrom, solvedTable, solvingGame}
 use Rattle.rounds.specs.RoundLaws.{roundTable, round-ranged}

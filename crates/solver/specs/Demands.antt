@@ -11,6 +11,7 @@ use lib.ListN.{length, replicate}
 use Rattle.game.specs.Limits.{maxStack}
 use Rattle.game.specs.Game.{PushdownGame}
 use Rattle.game.specs.Outcome.{Outcome, done, refused}
+use Rattle.game.specs.OutcomeLaws.{done-same}
 use Rattle.game.specs.Questions.{reading}
 use Rattle.game.specs.Win.{Position, inForm, isAbelard, Won}
 use Rattle.table.specs.Table.{entriesOf, isRuleOf}
@@ -27,7 +28,6 @@ use Rattle.judge.specs.declared.verdict.Verdict.the-variants.{
 }
 use Rattle.rounds.specs.Solving.{Solved, solvingWords}
 use Rattle.solver.specs.Leaving.{Call, Report, leaving, solveCall, called}
-use Rattle.rounds.specs.Solution.{done-same}
 use Rattle.rounds.specs.Demand2.{isLost, Judges, demand-two}
 use Rattle.rounds.specs.Demand3.{Plays, Reports, demand-three}
 use Rattle.solver.specs.declared.solving.Solution.{Solution}

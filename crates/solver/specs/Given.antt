@@ -5,13 +5,12 @@ use mathlib.Core.List.{List, _++_}
 use Rattle.game.specs.Game.{PushdownGame}
 use Rattle.game.specs.GoodGame.{Good}
 use Rattle.game.specs.Held.{Held}
-use Rattle.game.specs.Outcome.{Outcome, done}
+use Rattle.game.specs.Outcome.{Outcome, done, after}
 use Rattle.game.specs.Stored.{targetWords}
 use Rattle.game.specs.declared.game.Sizes.{Sizes}
 use Rattle.game.specs.declared.game.Answer.{Answer}
 use Rattle.game.specs.declared.game.Answer.the-variants.{Done as AnswerDone, Refused as AnswerRefused}
 use Rattle.table.specs.Table.{Entry}
-use Rattle.judge.specs.Verdict.{after}
 use Rattle.rounds.specs.Rounds.{roundZero}
 use Rattle.rounds.specs.Solving.{Solved, roundsFrom, solvedOf}
 use Rattle.game.specs.Limits.{maxRounds}

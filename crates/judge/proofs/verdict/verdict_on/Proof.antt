@@ -1,6 +1,5 @@
-use native.Mathlib.Omega.{arith}
 use Rattle.judge.proofs.Steps.{field-small}
-use Rattle.judge.proofs.Bounds.{tamed, bound-coded, bound-low, rule-least, is-lost, is-over, is-target, is-abelard, is-eloise}
+use Rattle.judge.proofs.Bounds.{tamed, bound-coded, bound-low, rule-least, strict, is-lost, is-target, is-abelard, is-eloise}
 use borrow.Author.Needs.{needs}
 use Rattle.judge.proofs.verdict.verdict_on.Statement.{statement}
 use Rattle.judge.proofs.verdict.verdict_on.Tie as tie
@@ -21,64 +20,103 @@ worths-requires : tie.Need-worths-requires
 worths-requires c κs = search needs
 
 head-worth-requires : tie.Need-head-worth-requires
-head-worth-requires c κs = (c .before .before .before .before .before .before .pre .1, c .before .before .before .before .before .before .pre .4, c .before .before .before .before .before .before .pre .5, tamed (c .before .before .before .before .before .before .args .sizes) (c .before .before .before .before .before .before .pre .1) _ (c .before .before .before .before .before .before .pre .4) _ (c .before .before .before .before .before .before .pre .0) (c .before .before .before .before .before .before .args .stack .now) (c .before .before .before .before .before .before .pre .2) (c .before .before .before .before .before .before .pre .3) _ (c .before .worths .ensures))
+head-worth-requires c κs =
+    let at-worths = c .before in
+    let start = at-worths .before .before .before .before .before in
+    let pre = start .pre in
+    let low = tamed (start .args .sizes) (pre .1) _ (pre .4) _ (pre .0) (start .args .stack .now) (pre .2) (pre .3) _ (at-worths .worths .ensures) in
+    (pre .1, pre .4, pre .5, low)
 
 returns : tie.Need-returns
 returns c =
     λ g e.
-    is-lost g (c .before .before .before .before .before .before .before .before .args .sizes) e _ _ _ (c .before .before .before .before .before .before .before .before .pre .2) _ (bound-coded (c .before .before .before .before .before .before .before .before .args .sizes) (c .before .before .before .before .before .before .before .before .pre .1) _ (c .before .before .before .before .before .before .before .before .pre .4) _ (c .before .before .before .before .before .before .before .before .pre .0) (c .before .before .before .before .before .before .before .before .args .stack .now) (c .before .before .before .before .before .before .before .before .pre .2) (c .before .before .before .before .before .before .before .before .pre .3) _ (c .before .before .before .worths .ensures) _ (c .before .head-worth .ensures)) (bound-low (c .before .before .before .before .before .before .before .before .args .sizes) (c .before .before .before .before .before .before .before .before .pre .1) _ (c .before .before .before .before .before .before .before .before .pre .4) _ (c .before .before .before .before .before .before .before .before .pre .0) (c .before .before .before .before .before .before .before .before .args .stack .now) (c .before .before .before .before .before .before .before .before .pre .2) (c .before .before .before .before .before .before .before .before .pre .3) _ (c .before .before .before .worths .ensures))
+    let at-head = c .before in
+    let at-worths = at-head .before .before in
+    let start = at-worths .before .before .before .before .before in
+    let sizes = start .args .sizes in
+    let stack = start .args .stack .now in
+    let pre = start .pre in
+    let below = at-worths .worths .ensures in
+    let code = bound-coded sizes (pre .1) _ (pre .4) _ (pre .0) stack (pre .2) (pre .3) _ below _ (at-head .head-worth .ensures) in
+    let low = bound-low sizes (pre .1) _ (pre .4) _ (pre .0) stack (pre .2) (pre .3) _ below in
+    is-lost g sizes e _ _ _ (pre .2) _ code low
     (c .if1 .taken)
 
 returns-2 : tie.Need-returns-2
 returns-2 c =
     λ g e.
-    is-over g (c .before .before .before .before .before .before .before .before .before .args .sizes) e _ _ _ (c .before .before .before .before .before .before .before .before .before .pre .2) _ (bound-coded (c .before .before .before .before .before .before .before .before .before .args .sizes) (c .before .before .before .before .before .before .before .before .before .pre .1) _ (c .before .before .before .before .before .before .before .before .before .pre .4) _ (c .before .before .before .before .before .before .before .before .before .pre .0) (c .before .before .before .before .before .before .before .before .before .args .stack .now) (c .before .before .before .before .before .before .before .before .before .pre .2) (c .before .before .before .before .before .before .before .before .before .pre .3) _ (c .before .before .before .before .worths .ensures) _ (c .before .before .head-worth .ensures)) (bound-low (c .before .before .before .before .before .before .before .before .before .args .sizes) (c .before .before .before .before .before .before .before .before .before .pre .1) _ (c .before .before .before .before .before .before .before .before .before .pre .4) _ (c .before .before .before .before .before .before .before .before .before .pre .0) (c .before .before .before .before .before .before .before .before .before .args .stack .now) (c .before .before .before .before .before .before .before .before .before .pre .2) (c .before .before .before .before .before .before .before .before .before .pre .3) _ (c .before .before .before .before .worths .ensures))
+    let at-head = c .before .before in
+    let at-worths = at-head .before .before in
+    let start = at-worths .before .before .before .before .before in
+    let sizes = start .args .sizes in
+    let stack = start .args .stack .now in
+    let pre = start .pre in
+    let below = at-worths .worths .ensures in
+    let code = bound-coded sizes (pre .1) _ (pre .4) _ (pre .0) stack (pre .2) (pre .3) _ below _ (at-head .head-worth .ensures) in
+    let low = bound-low sizes (pre .1) _ (pre .4) _ (pre .0) stack (pre .2) (pre .3) _ below in
+    is-target g sizes e _ _ _ (pre .2) _ code low
     (c .before .if1 .left)
     (c .if2 .taken)
-
-returns-3 : tie.Need-returns-3
-returns-3 c =
-    λ g e.
-    is-target g (c .before .before .before .before .before .before .before .before .before .before .args .sizes) e _ _ _ (c .before .before .before .before .before .before .before .before .before .before .pre .2) _ (bound-coded (c .before .before .before .before .before .before .before .before .before .before .args .sizes) (c .before .before .before .before .before .before .before .before .before .before .pre .1) _ (c .before .before .before .before .before .before .before .before .before .before .pre .4) _ (c .before .before .before .before .before .before .before .before .before .before .pre .0) (c .before .before .before .before .before .before .before .before .before .before .args .stack .now) (c .before .before .before .before .before .before .before .before .before .before .pre .2) (c .before .before .before .before .before .before .before .before .before .before .pre .3) _ (c .before .before .before .before .before .worths .ensures) _ (c .before .before .before .head-worth .ensures)) (bound-low (c .before .before .before .before .before .before .before .before .before .before .args .sizes) (c .before .before .before .before .before .before .before .before .before .before .pre .1) _ (c .before .before .before .before .before .before .before .before .before .before .pre .4) _ (c .before .before .before .before .before .before .before .before .before .before .pre .0) (c .before .before .before .before .before .before .before .before .before .before .args .stack .now) (c .before .before .before .before .before .before .before .before .before .before .pre .2) (c .before .before .before .before .before .before .before .before .before .before .pre .3) _ (c .before .before .before .before .before .worths .ensures))
-    (c .before .before .if1 .left)
-    (c .before .if2 .left)
-    (c .if3 .taken)
 
 has-state-requires : tie.Need-has-state-requires
 has-state-requires c κs = search needs
 
-returns-4 : tie.Need-returns-4
-returns-4 c =
+returns-3 : tie.Need-returns-3
+returns-3 c =
     λ g e.
-    is-abelard g (c .before .before .before .before .before .before .before .before .before .before .before .before .args .sizes) e _ _ _ (c .before .before .before .before .before .before .before .before .before .before .before .before .pre .2) _ (bound-coded (c .before .before .before .before .before .before .before .before .before .before .before .before .args .sizes) (c .before .before .before .before .before .before .before .before .before .before .before .before .pre .1) _ (c .before .before .before .before .before .before .before .before .before .before .before .before .pre .4) _ (c .before .before .before .before .before .before .before .before .before .before .before .before .pre .0) (c .before .before .before .before .before .before .before .before .before .before .before .before .args .stack .now) (c .before .before .before .before .before .before .before .before .before .before .before .before .pre .2) (c .before .before .before .before .before .before .before .before .before .before .before .before .pre .3) _ (c .before .before .before .before .before .before .before .worths .ensures) _ (c .before .before .before .before .before .head-worth .ensures)) (bound-low (c .before .before .before .before .before .before .before .before .before .before .before .before .args .sizes) (c .before .before .before .before .before .before .before .before .before .before .before .before .pre .1) _ (c .before .before .before .before .before .before .before .before .before .before .before .before .pre .4) _ (c .before .before .before .before .before .before .before .before .before .before .before .before .pre .0) (c .before .before .before .before .before .before .before .before .before .before .before .before .args .stack .now) (c .before .before .before .before .before .before .before .before .before .before .before .before .pre .2) (c .before .before .before .before .before .before .before .before .before .before .before .before .pre .3) _ (c .before .before .before .before .before .before .before .worths .ensures))
-    (c .before .before .before .before .if1 .left)
-    (c .before .before .before .if2 .left)
-    (c .before .before .if3 .left)
+    let at-head = c .before .before .before .before in
+    let at-worths = at-head .before .before in
+    let start = at-worths .before .before .before .before .before in
+    let sizes = start .args .sizes in
+    let stack = start .args .stack .now in
+    let pre = start .pre in
+    let below = at-worths .worths .ensures in
+    let code = bound-coded sizes (pre .1) _ (pre .4) _ (pre .0) stack (pre .2) (pre .3) _ below _ (at-head .head-worth .ensures) in
+    let low = bound-low sizes (pre .1) _ (pre .4) _ (pre .0) stack (pre .2) (pre .3) _ below in
+    is-abelard g sizes e _ _ _ (pre .2) _ code low
+    (c .before .before .before .if1 .left)
+    (c .before .before .if2 .left)
     _
     (c .before .has-state .ensures)
-    (c .if4 .taken)
+    (c .if3 .taken)
 
 least-rule-requires : tie.Need-least-rule-requires
-least-rule-requires c κs = (c .before .before .before .before .before .before .before .before .before .before .before .before .before .pre .1, c .before .before .before .before .before .before .before .before .before .before .before .before .before .pre .4, c .before .before .before .before .before .before .before .before .before .before .before .before .before .pre .5, tamed (c .before .before .before .before .before .before .before .before .before .before .before .before .before .args .sizes) (c .before .before .before .before .before .before .before .before .before .before .before .before .before .pre .1) _ (c .before .before .before .before .before .before .before .before .before .before .before .before .before .pre .4) _ (c .before .before .before .before .before .before .before .before .before .before .before .before .before .pre .0) (c .before .before .before .before .before .before .before .before .before .before .before .before .before .args .stack .now) (c .before .before .before .before .before .before .before .before .before .before .before .before .before .pre .2) (c .before .before .before .before .before .before .before .before .before .before .before .before .before .pre .3) _ (c .before .before .before .before .before .before .before .before .worths .ensures))
+least-rule-requires c κs =
+    let at-worths = c .before .before .before .before .before .before .before in
+    let start = at-worths .before .before .before .before .before in
+    let pre = start .pre in
+    let low = tamed (start .args .sizes) (pre .1) _ (pre .4) _ (pre .0) (start .args .stack .now) (pre .2) (pre .3) _ (at-worths .worths .ensures) in
+    (pre .1, pre .4, pre .5, low)
 
 rule-number-requires : tie.Need-rule-number-requires
 rule-number-requires c κs = search needs
 
-returns-5 : tie.Need-returns-5
-returns-5 c =
+returns-4 : tie.Need-returns-4
+returns-4 c =
     λ g e.
-    is-eloise g (c .before .before .before .before .before .before .before .before .before .before .before .before .before .before .before .args .sizes) e _ _ _ (c .before .before .before .before .before .before .before .before .before .before .before .before .before .before .before .pre .2) _ (bound-coded (c .before .before .before .before .before .before .before .before .before .before .before .before .before .before .before .args .sizes) (c .before .before .before .before .before .before .before .before .before .before .before .before .before .before .before .pre .1) _ (c .before .before .before .before .before .before .before .before .before .before .before .before .before .before .before .pre .4) _ (c .before .before .before .before .before .before .before .before .before .before .before .before .before .before .before .pre .0) (c .before .before .before .before .before .before .before .before .before .before .before .before .before .before .before .args .stack .now) (c .before .before .before .before .before .before .before .before .before .before .before .before .before .before .before .pre .2) (c .before .before .before .before .before .before .before .before .before .before .before .before .before .before .before .pre .3) _ (c .before .before .before .before .before .before .before .before .before .before .worths .ensures) _ (c .before .before .before .before .before .before .before .before .head-worth .ensures)) (bound-low (c .before .before .before .before .before .before .before .before .before .before .before .before .before .before .before .args .sizes) (c .before .before .before .before .before .before .before .before .before .before .before .before .before .before .before .pre .1) _ (c .before .before .before .before .before .before .before .before .before .before .before .before .before .before .before .pre .4) _ (c .before .before .before .before .before .before .before .before .before .before .before .before .before .before .before .pre .0) (c .before .before .before .before .before .before .before .before .before .before .before .before .before .before .before .args .stack .now) (c .before .before .before .before .before .before .before .before .before .before .before .before .before .before .before .pre .2) (c .before .before .before .before .before .before .before .before .before .before .before .before .before .before .before .pre .3) _ (c .before .before .before .before .before .before .before .before .before .before .worths .ensures))
-    (c .before .before .before .before .before .before .before .if1 .left)
-    (c .before .before .before .before .before .before .if2 .left)
-    (c .before .before .before .before .before .if3 .left)
+    let at-head = c .before .before .before .before .before .before .before in
+    let at-worths = at-head .before .before in
+    let start = at-worths .before .before .before .before .before in
+    let sizes = start .args .sizes in
+    let stack = start .args .stack .now in
+    let pre = start .pre in
+    let below = at-worths .worths .ensures in
+    let code = bound-coded sizes (pre .1) _ (pre .4) _ (pre .0) stack (pre .2) (pre .3) _ below _ (at-head .head-worth .ensures) in
+    let low = bound-low sizes (pre .1) _ (pre .4) _ (pre .0) stack (pre .2) (pre .3) _ below in
+    let bounded = c .before .before .before .before .before .before .if1 .left in
+    let known = at-worths .before .before .before .before .shared-slice-known .given in
+    let small = strict g sizes e _ (start .args .state) stack (pre .2) _ code low bounded in
+    is-eloise g sizes e _ _ _ (pre .2) _ code low
+    bounded
+    (c .before .before .before .before .before .if2 .left)
     _
     (c .before .before .before .before .has-state .ensures)
-    (c .before .before .before .if4 .left)
+    (c .before .before .before .if3 .left)
     _
-    (rule-least (c .before .before .before .before .before .before .before .before .before .before .before .before .before .before .before .args .sizes) (c .before .before .before .before .before .before .before .before .before .before .before .before .before .before .before .pre .1) _ (c .before .before .before .before .before .before .before .before .before .before .before .before .before .before .before .pre .4) _ (c .before .before .before .before .before .before .before .before .before .before .before .before .before .before .before .pre .0) (c .before .before .before .before .before .before .before .before .before .before .before .before .before .before .before .args .stack .now) (c .before .before .before .before .before .before .before .before .before .before .before .before .before .before .before .pre .2) (c .before .before .before .before .before .before .before .before .before .before .before .before .before .before .before .pre .3) _ (c .before .before .before .before .before .before .before .before .before .before .worths .ensures) (λ k. c .before .before .before .before .before .before .before .before .before .before .before .before .before .before .shared-slice-known .given k .fits) _ (omega (arith, c .before .before .before .before .before .before .if2 .left)) _ (c .before .least-rule .ensures))
+    (rule-least sizes (pre .1) _ (pre .4) _ (pre .0) stack (pre .2) (pre .3) _ below (λ k. known k .fits) _ small _ (c .before .least-rule .ensures))
     _
     (c .rule-number .ensures)
-    (field-small _ (λ k. c .before .before .before .before .before .before .before .before .before .before .before .before .before .before .shared-slice-known .given k .fits))
+    (field-small _ (λ k. known k .fits))
 
 pub verdict-on-spec : {M : Type 1} → statement M
 verdict-on-spec =
@@ -92,9 +130,8 @@ verdict-on-spec =
     head-worth-requires
     returns
     returns-2
-    returns-3
     has-state-requires
-    returns-4
+    returns-3
     least-rule-requires
     rule-number-requires
-    returns-5)
+    returns-4)
