@@ -9,6 +9,9 @@ use std::time::Duration;
 
 const BUDGET: Duration = Duration::from_millis(300);
 
+/// The kind of a lost verdict.
+const LOST: u64 = 1;
+
 /// The heights of the stacks that are judged.
 const HEIGHTS: [usize; 4] = [1, 10, 100, 256];
 
@@ -24,17 +27,36 @@ pub struct Judged {
 /// state has about as many entries on each of three letters as any other, all to sets of 29 states. State 0 is Éloise's, state 1
 /// Abelard's.
 pub fn full_table(entries: usize) -> Judged {
-    crafted("full", entries, Making::new(2, MAX_STATES, 3), |further, n| further & !(4 << n))
+    crafted("full", entries, Making::new(2, MAX_STATES, 3), None, |further, n| further & !(4 << n))
 }
 
 /// One of the shape that solved tables have: 6 control states and 5 others, 13 letters, sets of few states.
 pub fn spread_table(entries: usize) -> Judged {
-    crafted("spread", entries, Making::new(6, 11, 13), |further, n| further & ((31 - n) << 6))
+    crafted("spread", entries, Making::new(6, 11, 13), None, |further, n| further & ((31 - n) << 6))
 }
 
-/// A table with about as many entries for each state and letter; `set_of` gives different sets of further states for different
-/// numbers, the larger the number the smaller the set.
-fn crafted(name: &str, entries: usize, mut making: Making, set_of: fn(u32, u32) -> u32) -> Judged {
+/// One over which Abelard's state 1 is lost on letter 1 above any rest, and which has the judge ask every rule of that head: it has no
+/// entry there, and all rules but the last, most of them of two letters, lead to positions that have a bound.
+fn lost_table(entries: usize) -> Judged {
+    let (control, letters) = (16, 4);
+    let mut making = Making::new(control, MAX_STATES, letters);
+    for to in 0..control {
+        for above in 1..letters {
+            for below in 1..letters {
+                if (to, above) != (1, 1) {
+                    making.rule(1, 1, to, &[above, below]);
+                }
+            }
+        }
+    }
+    crafted("lost", entries, making, Some(letters as u32 + 1), |further, n| further & !(1 << (16 + n)))
+}
+
+/// A table with about as many entries for each state and letter, but for a head that has none; `set_of` gives different sets of
+/// further states for different numbers, the larger the number the smaller the set. Its entries name rules that change nothing, which
+/// come after those that the file has.
+fn crafted(name: &str, entries: usize, mut making: Making, without: Option<u32>, set_of: fn(u32, u32) -> u32) -> Judged {
+    let before = making.rules() as u32;
     making.abelard(1);
     for q in 0..32 {
         if making.further() >> q & 1 == 1 {
@@ -49,7 +71,10 @@ fn crafted(name: &str, entries: usize, mut making: Making, set_of: fn(u32, u32) 
     for head in 0..heads {
         let (state, letter) = (head / letters, head % letters);
         let birthdate = if state < control { 1 } else { 0 };
-        let rule = if state < control && state != 1 { head + 1 } else { 0 };
+        let rule = if state < control && state != 1 { before + head + 1 } else { 0 };
+        if without == Some(head) {
+            continue;
+        }
         let count = entries as u32 / heads + u32::from(head < entries as u32 % heads);
         for n in (0..count).rev() {
             table.extend([state + 256 * letter + 65_536 * birthdate, set_of(further, n), rule]);
@@ -161,6 +186,34 @@ pub fn judge_heights(judged: &Judged) -> Option<f64> {
     let entries = table.chunks(3).filter(|entry| *entry != [0, 0, 0]).count();
     println!("| {name} | {entries} | {} | {} |", columns.join(" | "), quotients.join(" | "));
     Some(times[1] / passes[0])
+}
+
+/// A line for lost positions: how long the judge takes to name Abelard's rule, where it asks as many rules of a head as this table
+/// has it ask, beside a position of Éloise's that is won, on the same stacks. Whether the rule named is the last of its head.
+pub fn judge_lost() -> bool {
+    let Judged { file, table, letters, .. } = lost_table(2000);
+    let Ok(game) = reader::read(&file) else { return false };
+    let of_head: Vec<usize> = (0..game.rules.len()).filter(|r| (game.rules[*r].from, game.rules[*r].letter) == (1, 1)).collect();
+    let Some(last) = of_head.last() else { return false };
+    let (mut lost, mut won, mut named) = (vec![], vec![], true);
+    for height in [2, 256] {
+        let mut position = position(height, letters);
+        won.push(milliseconds(best(BUDGET, || library::judge(&file, &table, black_box(&position)))));
+        (position[0], position[1]) = (1, 1);
+        lost.push(milliseconds(best(BUDGET, || library::judge(&file, &table, black_box(&position)))));
+        named &= library::judge(&file, &table, &position).words[1..3] == [LOST, *last as u64 + 1];
+    }
+    println!(
+        "\nnaming the rule of a lost position, the last of {} of its head, over {} entries: 2 letters {} ms, 256 letters {} ms; \
+         a won position on these stacks {} ms and {} ms",
+        of_head.len(),
+        table.len() / 3,
+        lost[0],
+        lost[1],
+        won[0],
+        won[1]
+    );
+    named
 }
 
 /// State 0 and a stack of so many letters, those above the bottom in turn.

@@ -187,6 +187,9 @@ fn judging(compared: &[Compared], figures: &mut Figures) {
             None => figures.fault(format!("judging over {} is refused", table.name)),
         }
     }
+    if !judging::judge_lost() {
+        figures.fault("the rule of a lost position is not the last of its head".to_string());
+    }
     if !judging::read_longest() {
         figures.fault("the longest good file is refused".to_string());
     }

@@ -78,6 +78,11 @@ impl Making {
         }
     }
 
+    /// How many rules there are.
+    pub fn rules(&self) -> usize {
+        self.rules
+    }
+
     /// All further states.
     pub fn further(&self) -> u32 {
         (((1u64 << self.states) - 1) & !((1u64 << self.control) - 1)) as u32

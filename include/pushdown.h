@@ -5,9 +5,9 @@
  * moves in them: reading a game file, solving it into a table of entries,
  * judging a position over a table, playing a move in a session. This header has
  * the version, the four functions, the limits, the numbers of refusals and of
- * verdicts, and the parts of an entry and of a session. The bytes of the formats are in
- * docs/FORMAT.md; what is proved is in docs/CONTRACT.md. Neither is repeated
- * here beyond what a call needs.
+ * verdicts, and the parts of an entry, of a lost verdict and of a session. The
+ * bytes of the formats are in docs/FORMAT.md; what is proved is in
+ * docs/CONTRACT.md. Neither is repeated here beyond what a call needs.
  *
  * Buffers
  *
@@ -64,11 +64,11 @@ extern "C" {
 #endif
 
 /* The version of this header. The major number is raised where a caller must
- * change something: a number, a layout or a limit is another one. The minor
- * number is raised where something is only added. CHANGELOG.md says what each
- * version changed. */
+ * change something: a number, a word, a layout or a limit is another one. The
+ * minor number is raised where something is only added. CHANGELOG.md says what
+ * each version changed. */
 
-#define PUSHDOWN_VERSION_MAJOR 3u
+#define PUSHDOWN_VERSION_MAJOR 4u
 #define PUSHDOWN_VERSION_MINOR 0u
 #define PUSHDOWN_VERSION (PUSHDOWN_VERSION_MAJOR * 65536u + PUSHDOWN_VERSION_MINOR)
 
@@ -140,7 +140,7 @@ extern "C" {
 
 /* Kinds of verdict: word PUSHDOWN_JUDGE_KIND of a judgement, 0 after a refusal. */
 
-#define PUSHDOWN_LOST 1u    /* no run of the table accepts the position */
+#define PUSHDOWN_LOST 1u    /* no run of the table accepts the position; on Abelard's turn the rule that keeps it lost */
 #define PUSHDOWN_TARGET 2u  /* the bound is 0 */
 #define PUSHDOWN_ELOISE 3u  /* Eloise's turn: the advised rule and the bound */
 #define PUSHDOWN_ABELARD 4u /* Abelard's turn: the bound */
@@ -161,7 +161,10 @@ extern "C" {
 #define PUSHDOWN_SOLVE_ROUNDS 2  /* the largest birthdate, 0 without entries */
 
 #define PUSHDOWN_JUDGE_KIND 1  /* the kind of verdict */
-#define PUSHDOWN_JUDGE_RULE 2  /* the advised rule's number, from 0; 0 unless PUSHDOWN_ELOISE */
+#define PUSHDOWN_JUDGE_RULE 2  /* PUSHDOWN_ELOISE: the advised rule's number, from 0. PUSHDOWN_LOST: on Abelard's turn the number
+                                  plus 1 of his lowest rule that leads to a lost position, also one of 257 letters; 0 on
+                                  Eloise's turn, and where no rule does, which only comes over a table from elsewhere.
+                                  0 under the other kinds. */
 #define PUSHDOWN_JUDGE_BOUND 3 /* the bound, 1 to PUSHDOWN_MAX_BOUND moves; 0 unless PUSHDOWN_ELOISE or PUSHDOWN_ABELARD */
 
 /*
@@ -207,8 +210,10 @@ uint32_t pushdown_solve(const uint8_t *file, size_t file_len, uint32_t *table, s
  * file      bytes, any number of them; not written.
  * table     words, three an entry, unused entries (all zero) last; not written.
  *           Won and lost are claimed for the table that pushdown_solve left for
- *           this file; over another table that passes 13 the bound is that of
- *           its own entries.
+ *           this file: from a lost position no rule of Eloise's leads into the
+ *           target while Abelard plays the rule that is reported of each lost
+ *           position of his. Over another table that passes 13 the bound is that
+ *           of its own entries, and lost means that there is none.
  * position  bytes: control state, then stack, top letter first; not written.
  * out       PUSHDOWN_JUDGE_WORDS words; what they held does not matter. After
  *           PUSHDOWN_DONE 0, kind, rule, bound, unused ones 0. After a refusal
@@ -241,8 +246,8 @@ uint32_t pushdown_play(const uint8_t *file, size_t file_len, uint8_t *session, s
 #endif
 
 /*
- * Parts of an entry and of a session, as macros; they are not of the library
- * and not proved.
+ * Parts of an entry, of a lost verdict and of a session, as macros; they are not
+ * of the library and not proved.
  */
 
 /* An entry, const uint32_t *: entry n of a table is at table + 3 * n. */
@@ -252,6 +257,10 @@ uint32_t pushdown_play(const uint8_t *file, size_t file_len, uint8_t *session, s
 #define PUSHDOWN_ENTRY_SET(entry) ((entry)[1]) /* bit s for state s */
 #define PUSHDOWN_ENTRY_HAS_RULE(entry) ((entry)[2] != 0u)
 #define PUSHDOWN_ENTRY_RULE(entry) ((entry)[2] - 1u) /* only where it has one */
+
+/* The words of a judgement whose kind is PUSHDOWN_LOST, const uint64_t *. */
+#define PUSHDOWN_LOST_HAS_RULE(out) ((out)[PUSHDOWN_JUDGE_RULE] != 0u)
+#define PUSHDOWN_LOST_RULE(out) ((uint32_t)((out)[PUSHDOWN_JUDGE_RULE] - 1u)) /* only where it has one */
 
 /* A session, const uint8_t *. A height is in form from 1 to 256, a cell's index
  * is from 0, the bottom, to 255; the top letter is at the height less 1. */

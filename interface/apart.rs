@@ -54,7 +54,7 @@ impl Game {
     }
 
     /// The rules of a head with their numbers.
-    fn rules_of(&self, state: u8, letter: u8) -> impl Iterator<Item = (usize, &Rule)> {
+    pub fn rules_of(&self, state: u8, letter: u8) -> impl Iterator<Item = (usize, &Rule)> {
         self.rules.iter().enumerate().filter(move |(_, rule)| rule.from == state && rule.letter == letter)
     }
 }
@@ -344,7 +344,8 @@ fn form(game: &Game, position: &[u8]) -> Result<(), Refusal> {
 
 #[derive(Clone, Copy, Debug, PartialEq, Eq)]
 pub enum Verdict {
-    Lost,
+    /// With the lowest-numbered rule of Abelard's that leads to a lost position: none for a position of Éloise's, and where no rule does.
+    Lost { rule: Option<usize> },
     Target,
     Eloise { rule: usize, bound: u64 },
     Abelard { bound: u64 },
@@ -369,6 +370,36 @@ fn run_worth(below: &[Option<u64>], (birthdate, set): (u32, Set)) -> Option<u64>
     Some((1u64 << birthdate) - 1 + largest)
 }
 
+/// The states that accept a stack, top letter first, from the bottom up: the final ones accept no letters, and a state accepts one
+/// letter more if it has a transition on it all of whose set accepts what is below. There is no height that this refuses, and no sum.
+fn accepting(game: &Game, entries: &Entries, stack: &[u8]) -> Set {
+    let mut accept = game.finals;
+    for letter in stack.iter().rev() {
+        let steps = |q: &u8| transitions(entries, *q, *letter).any(|(_, set)| set & !accept == 0);
+        accept = (0..game.states).filter(steps).fold(0, |all, q| all | 1 << q);
+    }
+    accept
+}
+
+/// Document 02, 2: of a lost position of Abelard's the lowest-numbered rule that leads to a lost position. The successor, of up to 257
+/// letters, is lost over the table if its control state does not accept its stack.
+fn losing_rule(game: &Game, entries: &Entries, state: u8, stack: &[u8]) -> Option<usize> {
+    if !game.is_abelards(state) {
+        return None;
+    }
+    let leads_to_lost = |rule: &Rule| {
+        let successor = [&rule.word, &stack[1..]].concat();
+        accepting(game, entries, &successor) & (1 << rule.to) == 0
+    };
+    game.rules_of(state, stack[0]).find(|(_, rule)| leads_to_lost(rule)).map(|(number, _)| number)
+}
+
+/// Whether a position is in the target: its control state accepts its stack by the target's transitions alone.
+pub fn is_in_target(game: &Game, position: &[u8]) -> bool {
+    let targets: Entries = game.targets.iter().map(|key| (*key, (0, None))).collect();
+    accepting(game, &targets, &position[1..]) & (1 << position[0]) != 0
+}
+
 /// The file's questions, 13 and 14, and the verdict.
 pub fn judge(file: &[u8], table: &[u32], position: &[u8]) -> Result<Verdict, Refusal> {
     let game = read(file)?;
@@ -376,7 +407,7 @@ pub fn judge(file: &[u8], table: &[u32], position: &[u8]) -> Result<Verdict, Ref
     form(&game, position)?;
     let (state, stack) = (position[0], &position[1..]);
     let Some(bound) = worths(&game, &entries, stack)[state as usize] else {
-        return Ok(Verdict::Lost);
+        return Ok(Verdict::Lost { rule: losing_rule(&game, &entries, state, stack) });
     };
     assert!(bound < 1 << 48, "document 02, 5: no judged bound reaches 2^48");
     if bound == 0 {

@@ -12,6 +12,9 @@ pub const JUDGE_WORDS: usize = 4;
 pub const PLAY_WORDS: usize = 1;
 pub const SESSION_BYTES: usize = 259;
 
+/// The kind of a lost verdict.
+pub const LOST: u64 = 1;
+
 /// How many differences are shown with their bytes.
 const SHOWN: u64 = 20;
 
@@ -24,12 +27,12 @@ pub const NAMES: [&str; 4] = ["read", "solve", "judge", "play"];
 
 /// What a call returns and leaves: the number, the words of results, and the buffers that it may write.
 #[derive(Clone, Debug, PartialEq, Eq)]
-struct Left {
-    number: u32,
-    out: Vec<u64>,
-    table: Vec<u32>,
+pub struct Left {
+    pub number: u32,
+    pub out: Vec<u64>,
+    pub table: Vec<u32>,
     work: Vec<u32>,
-    session: Vec<u8>,
+    pub session: Vec<u8>,
 }
 
 impl Left {
@@ -48,6 +51,8 @@ pub struct Calls {
     pub answered: [BTreeMap<u32, u64>; 4],
     /// How often the judge gave each kind of verdict.
     pub verdicts: BTreeMap<u64, u64>,
+    /// How many lost verdicts named a rule of Abelard's.
+    pub losing_rules: u64,
     digest: u64,
 }
 
@@ -59,6 +64,7 @@ impl Calls {
             differed: [0; 4],
             answered: Default::default(),
             verdicts: BTreeMap::new(),
+            losing_rules: 0,
             digest: 0xcbf2_9ce4_8422_2325,
         }
     }
@@ -75,8 +81,8 @@ impl Calls {
     }
 
     /// Takes up what two equal calls left, or, where there is no library and none was made, what they must leave: then nothing can
-    /// differ here, and the digest alone is compared, with that of the hosts that make the calls.
-    fn take(&mut self, function: usize, expected: Left, got: Option<[(Left, bool); 2]>, arguments: impl Fn() -> String) {
+    /// differ here, and the digest alone is compared, with that of the hosts that make the calls. Hands out what was left.
+    fn take(&mut self, function: usize, expected: Left, got: Option<[(Left, bool); 2]>, arguments: impl Fn() -> String) -> Left {
         self.tried[function] += 1;
         let left = match got {
             None => expected,
@@ -97,6 +103,7 @@ impl Calls {
         *self.answered[function].entry(left.number).or_default() += 1;
         if function == JUDGE && left.number == 0 {
             *self.verdicts.entry(left.out[1]).or_default() += 1;
+            self.losing_rules += (left.out[1] == LOST && left.out[2] > 0) as u64;
         }
         self.digest_bytes(&[function as u8]);
         self.digest_bytes(&left.number.to_le_bytes());
@@ -107,9 +114,10 @@ impl Calls {
             self.digest_bytes(&word.to_le_bytes());
         }
         self.digest_bytes(&left.session);
+        left
     }
 
-    pub fn read(&mut self, file: &[u8], out: &[u64]) {
+    pub fn read(&mut self, file: &[u8], out: &[u64]) -> Left {
         let expected = if out.len() != READ_WORDS {
             Left::new(WRONG_LENGTH, out)
         } else {
@@ -137,10 +145,10 @@ impl Calls {
             let number = library::read(&lent_file, &mut lent_out);
             (Left::new(number, lent_out.slice()), lent_file.kept() && lent_out.margins_kept())
         });
-        self.take(READ, expected, got, || format!("file {}, out {out:?}", hex(file)));
+        self.take(READ, expected, got, || format!("file {}, out {out:?}", hex(file)))
     }
 
-    pub fn solve(&mut self, file: &[u8], table: &[u32], work: &[u32], out: &[u64]) {
+    pub fn solve(&mut self, file: &[u8], table: &[u32], work: &[u32], out: &[u64]) -> Left {
         let mut expected;
         if out.len() != SOLVE_WORDS {
             expected = Left::new(WRONG_LENGTH, out);
@@ -174,15 +182,15 @@ impl Calls {
         });
         self.take(SOLVE, expected, got, || {
             format!("file {}, table {table:?}, work {work:?}, out {out:?}", hex(file))
-        });
+        })
     }
 
-    pub fn judge(&mut self, file: &[u8], table: &[u32], position: &[u8], out: &[u64]) {
+    pub fn judge(&mut self, file: &[u8], table: &[u32], position: &[u8], out: &[u64]) -> Left {
         let expected = if out.len() != JUDGE_WORDS {
             Left::new(WRONG_LENGTH, out)
         } else {
             match apart::judge(file, table, position) {
-                Ok(Verdict::Lost) => Left::new(0, &[0, 1, 0, 0]),
+                Ok(Verdict::Lost { rule }) => Left::new(0, &[0, LOST, rule.map_or(0, |number| number as u64 + 1), 0]),
                 Ok(Verdict::Target) => Left::new(0, &[0, 2, 0, 0]),
                 Ok(Verdict::Eloise { rule, bound }) => Left::new(0, &[0, 3, rule as u64, bound]),
                 Ok(Verdict::Abelard { bound }) => Left::new(0, &[0, 4, 0, bound]),
@@ -201,10 +209,10 @@ impl Calls {
         });
         self.take(JUDGE, expected, got, || {
             format!("file {}, table {table:?}, position {}, out {out:?}", hex(file), hex(position))
-        });
+        })
     }
 
-    pub fn play(&mut self, file: &[u8], session: &[u8], rule: u32, out: &[u64]) {
+    pub fn play(&mut self, file: &[u8], session: &[u8], rule: u32, out: &[u64]) -> Left {
         let mut expected;
         if session.len() != SESSION_BYTES || out.len() != PLAY_WORDS {
             expected = Left::new(WRONG_LENGTH, out);
@@ -233,7 +241,7 @@ impl Calls {
         });
         self.take(PLAY, expected, got, || {
             format!("file {}, session {}, rule {rule}, out {out:?}", hex(file), hex(session))
-        });
+        })
     }
 }
 
@@ -254,6 +262,13 @@ pub fn session_of(bytes: &[u8]) -> apart::Session {
 pub fn session_bytes(session: &apart::Session) -> Vec<u8> {
     let mut bytes = vec![session.state, (session.height % 256) as u8, (session.height / 256) as u8];
     bytes.extend(&session.cells);
+    bytes
+}
+
+/// The position of a session: control state, then stack, top letter first.
+pub fn position_bytes(session: &apart::Session) -> Vec<u8> {
+    let mut bytes = vec![session.state];
+    bytes.extend(session.cells[..session.height].iter().rev());
     bytes
 }
 

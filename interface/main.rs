@@ -4,7 +4,8 @@
 //! What is tried: the samples of document 01 and its edges; judgements up to the largest bound, over tables from elsewhere; every cut
 //! of every sample file; files that end within a command or have an unknown one, with what must be answered; seeded damages of the sample files; seeded small and wide games. Each file goes
 //! through every function, with tables from the solver, damaged tables and garbage, positions and sessions in form and damaged, rule
-//! numbers in and out of range, areas of good and of wrong lengths. Every call is made twice. What was in an area before is garbage.
+//! numbers in and out of range, areas of good and of wrong lengths. Then lost positions, with the rule that must be answered, and
+//! contests from lost positions of seeded small games. Every call is made twice. What was in an area before is garbage.
 //!
 //!     interface [--damages N] [--exact]
 //!
@@ -16,11 +17,13 @@
 
 mod apart;
 mod calls;
+mod contest;
 mod library;
 mod random;
 
 use apart::{Game, Refusal, Verdict};
-use calls::{Calls, JUDGE_WORDS, PLAY_WORDS, READ_WORDS, SESSION_BYTES, SOLVE_WORDS};
+use calls::{Calls, Left, JUDGE_WORDS, LOST, PLAY_WORDS, READ_WORDS, SESSION_BYTES, SOLVE_WORDS};
+use contest::{Contests, Judgement};
 use random::Random;
 use std::collections::BTreeMap;
 use std::process::ExitCode;
@@ -44,6 +47,7 @@ struct Test {
     solved: u64,
     /// Wide games that were solved with 512 entries.
     solved_long: u64,
+    contests: Contests,
 }
 
 impl Test {
@@ -52,14 +56,14 @@ impl Test {
         self.calls.read(file, &out);
     }
 
-    fn solve(&mut self, file: &[u8], table: usize, work: usize, words: usize) {
+    fn solve(&mut self, file: &[u8], table: usize, work: usize, words: usize) -> Left {
         let (table, work, out) = (self.random.words(table), self.random.words(work), self.random.results(words));
-        self.calls.solve(file, &table, &work, &out);
+        self.calls.solve(file, &table, &work, &out)
     }
 
-    fn judge(&mut self, file: &[u8], table: &[u32], position: &[u8], words: usize) {
+    fn judge(&mut self, file: &[u8], table: &[u32], position: &[u8], words: usize) -> Left {
         let out = self.random.results(words);
-        self.calls.judge(file, table, position, &out);
+        self.calls.judge(file, table, position, &out)
     }
 
     fn play(&mut self, file: &[u8], session: &[u8], rule: u32, words: usize) {
@@ -173,6 +177,21 @@ impl Test {
         self.judge(file, &damaged, &position, JUDGE_WORDS);
     }
 
+    /// Contests from the lost ones of a few positions, over the table that solving the file left; none where it is refused.
+    fn contests(&mut self, file: &[u8]) {
+        let solved = self.solve(file, SMALL, SMALL, SOLVE_WORDS);
+        let (0, Ok(game)) = (solved.number, apart::read(file)) else {
+            return;
+        };
+        for _ in 0..4 {
+            let position = random::position(&mut self.random, &game);
+            let judged = self.judge(file, &solved.table, &position, JUDGE_WORDS);
+            if judged.out[1] == LOST {
+                self.contests.play(&mut self.calls, &mut self.random, file, &solved.table, &position);
+            }
+        }
+    }
+
     /// A few moves in one session by rules of its head, where the file is accepted.
     fn walk(&mut self, file: &[u8], game: &Game, session: &[u8]) {
         let mut session = session.to_vec();
@@ -194,8 +213,8 @@ impl Test {
     }
 }
 
-/// The positions of document 01 by the index of their sample, with the verdicts that it states: A1 to A5, B1, B2, C1, and D's
-/// with 40 letters.
+/// The positions of document 01 by the index of their sample, with the verdicts that it and document 02 state: A1 to A5, B1, B2, C1,
+/// and D's with 40 letters.
 fn stated() -> [(usize, &'static [u8], Verdict); 9] {
     [
         (0, &[0, 0], Verdict::Target),
@@ -203,7 +222,7 @@ fn stated() -> [(usize, &'static [u8], Verdict); 9] {
         (0, &[1, 1, 0], Verdict::Abelard { bound: 3 }),
         (0, &[1, 1, 1, 0], Verdict::Abelard { bound: 4 }),
         (0, &[1, 0], Verdict::Abelard { bound: 1 }),
-        (1, &[1, 1, 0], Verdict::Lost),
+        (1, &[1, 1, 0], Verdict::Lost { rule: Some(5) }),
         (1, &[0, 1, 0], Verdict::Eloise { rule: 2, bound: 1 }),
         (2, &[0, 1, 0], Verdict::Eloise { rule: 1, bound: 3 }),
         (3, &[0, 1, 0], Verdict::Eloise { rule: 1, bound: 1_099_511_627_775 }),
@@ -213,7 +232,7 @@ fn stated() -> [(usize, &'static [u8], Verdict); 9] {
 /// Judgements up to the largest bound, with what documents 01 and 02 state of them: sample D with one letter above the bottom, its control
 /// state Éloise's and then Abelard's, over a table from elsewhere whose two entries have birthdate 40, so that each letter is worth
 /// 2^40 - 1. Stacks of 1, 2, 255 and 256 letters; 257, which are refused; and a table of birthdate 41, which is refused.
-fn largest() -> Vec<(Vec<u8>, Vec<u32>, Vec<u8>, Result<Verdict, Refusal>)> {
+fn largest() -> Vec<Judgement> {
     let most = (1 << 40) - 1;
     let mut cases = vec![];
     for owner in [&[][..], &[0x02, 0]] {
@@ -328,10 +347,18 @@ fn main() -> ExitCode {
         .iter()
         .map(|file| apart::solve(file, SMALL, SMALL).map_or(vec![0; SMALL], |s| apart::words(&s.entries, SMALL)))
         .collect();
-    let mut test = Test { calls: Calls::new(margin), random: Random::new(SEED), accepted: 0, solved: 0, solved_long: 0 };
+    let mut test = Test {
+        calls: Calls::new(margin),
+        random: Random::new(SEED),
+        accepted: 0,
+        solved: 0,
+        solved_long: 0,
+        contests: Contests::default(),
+    };
     // So many for each damage, so that a shorter run is shorter in all.
     let small_games = damages;
     let wide_games = damages / 50;
+    let contest_games = damages / 100;
 
     // The samples, with the longest table, with as many entries as they have, and with one fewer.
     for (file, game) in samples.iter().zip(&games) {
@@ -404,6 +431,15 @@ fn main() -> ExitCode {
         test.long_table(&file);
         files += 1;
     }
+    let lost_judgements = contest::judgements();
+    for (file, table, position, answer) in &lost_judgements {
+        assert_eq!(apart::judge(file, table, position), *answer, "documents 01 and 02 state it of a lost position");
+        test.judge(file, table, position, JUDGE_WORDS);
+    }
+    for _ in 0..contest_games {
+        let file = random::small_game(&mut test.random);
+        test.contests(&file);
+    }
 
     println!(
         "files {files}: samples {}, cuts {cuts}, edges {}, unread {}, damages {damages}, small games {small_games}, wide games \
@@ -421,6 +457,17 @@ fn main() -> ExitCode {
         LONG / 3
     );
     println!("judgements up to the largest bound {}, the largest {largest_bound}", largest_bounds.len());
+    let contests = &test.contests;
+    println!(
+        "judgements of lost positions {}; contests from {} lost positions of {contest_games} small games, {} failed",
+        lost_judgements.len(),
+        contests.started,
+        contests.failed
+    );
+    println!(
+        "  moves {}, Abelard's {} by the rule reported, {} of them not his lowest; ended at a full stack {}",
+        contests.moves, contests.abelards, contests.not_lowest, contests.full
+    );
     for (function, name) in calls::NAMES.iter().enumerate() {
         let (tried, differed) = (test.calls.tried[function], test.calls.differed[function]);
         if cfg!(apart_only) {
@@ -430,11 +477,11 @@ fn main() -> ExitCode {
         }
         println!("  answers {}", counts(&test.calls.answered[function]));
     }
-    println!("verdicts by kind {}", counts(&test.calls.verdicts));
+    println!("verdicts by kind {}; lost by a rule of Abelard's {}", counts(&test.calls.verdicts), test.calls.losing_rules);
     let version_agrees = library::version_agrees();
     println!("version {}", if version_agrees { "as it is declared" } else { "DIFFERS from the declared one" });
     println!("digest {:016x}", test.calls.digest());
-    if test.calls.differed.iter().any(|count| *count > 0) || !version_agrees {
+    if test.calls.differed.iter().any(|count| *count > 0) || test.contests.failed > 0 || !version_agrees {
         ExitCode::FAILURE
     } else {
         ExitCode::SUCCESS

@@ -2,6 +2,7 @@
  * The library from C: reads a game file, solves it, judges a position, and plays
  * from there to the target. On Eloise's turn the advised rule is played, on
  * Abelard's the rule of the lowest number that his head has. Prints every move.
+ * Of a lost position it prints why it is lost, as a table of moves.
  *
  *     example FILE STATE LETTER..      the stack's letters, top first, 0 last
  *
@@ -19,6 +20,22 @@
 #include "pushdown.h"
 
 enum { REACHED = 0, NOT_REACHED = 1, NO_FILE = 2, OTHER_VERSION = 3, BAD_USAGE = 64 };
+
+/* The most moves of the table that shows why a position is lost. */
+enum { MOST_MOVES = 10 };
+
+/* A solved game: the file, and the table that pushdown_solve left for it. */
+struct solved {
+    const uint8_t *file;
+    size_t file_len;
+    const uint32_t *table;
+};
+
+/* A position as a session, and the words of the judgement on it. */
+struct judged {
+    uint8_t session[PUSHDOWN_SESSION_BYTES];
+    uint64_t verdict[PUSHDOWN_JUDGE_WORDS];
+};
 
 /* The question that a number stands for, in a few words. */
 static const char *cause(uint32_t number)
@@ -140,6 +157,79 @@ static uint32_t play_lowest(const uint8_t *file, size_t file_len, uint8_t *sessi
     return answer;
 }
 
+/* Prints the moves from a lost position as rows of the table of moves, and hands
+ * out the first position that they lead to. On Abelard's turn that is the rule
+ * that the judge reports, which leads to a lost position; on Eloise's it is every
+ * rule that her head has, since each of them does. Returns whether there is a
+ * position to go on from: none where the stack would be too high. */
+static int print_moves(const struct solved *game, const struct judged *before, unsigned move, struct judged *next)
+{
+    static struct judged after;
+    static uint8_t position[PUSHDOWN_MAX_POSITION];
+    /* In a solved game a lost verdict has a rule exactly on Abelard's turn. */
+    int is_abelards = PUSHDOWN_LOST_HAS_RULE(before->verdict);
+    int rows = 0, found = 0;
+    uint64_t out[PUSHDOWN_PLAY_WORDS];
+    uint32_t rule, answer;
+    size_t length;
+
+    for (rule = 0; rule < PUSHDOWN_MAX_RULES; rule++) {
+        if (is_abelards && rule != PUSHDOWN_LOST_RULE(before->verdict))
+            continue;
+        after = *before;
+        answer = pushdown_play(game->file, game->file_len, after.session, PUSHDOWN_SESSION_BYTES, rule, out,
+                               PUSHDOWN_PLAY_WORDS);
+        if (answer == PUSHDOWN_REFUSED_RULE)
+            continue;
+        length = position_of(after.session, position);
+        if (answer == PUSHDOWN_DONE)
+            answer = pushdown_judge(game->file, game->file_len, game->table, PUSHDOWN_MAX_TABLE, position, length,
+                                    after.verdict, PUSHDOWN_JUDGE_WORDS);
+        if (rows++ == 0)
+            printf("%4u", move);
+        else
+            printf("  or");
+        printf("  %-7s  %4" PRIu32 "  ", is_abelards ? "Abelard" : "Eloise", rule);
+        if (answer != PUSHDOWN_DONE) {
+            printf("%s\n", cause(answer));
+            continue;
+        }
+        print_position(position, length);
+        printf(after.verdict[PUSHDOWN_JUDGE_KIND] == PUSHDOWN_LOST ? " lost\n" : " not lost\n");
+        if (!found)
+            *next = after;
+        found = 1;
+    }
+    return found;
+}
+
+/* Prints why a position is lost, as a table of moves from it. Ends where a
+ * position comes again, where a stack would be too high, or after MOST_MOVES
+ * moves. A session has zeros above its stack, so that equal positions are equal
+ * sessions. */
+static void print_why_lost(const struct solved *game, const uint8_t *session, const uint64_t *verdict)
+{
+    static struct judged positions[MOST_MOVES + 1];
+    unsigned move, earlier;
+
+    printf("why: on Abelard's turn the rule that the judge reports, on Eloise's every rule that she has; the first that can be is played\n");
+    printf("move  turn     rule  leads to\n");
+    memcpy(positions[0].session, session, sizeof positions[0].session);
+    memcpy(positions[0].verdict, verdict, sizeof positions[0].verdict);
+    for (move = 1; move <= MOST_MOVES; move++) {
+        if (!print_moves(game, &positions[move - 1], move, &positions[move])) {
+            printf("the table ends at move %u: a session has at most %u letters\n", move, PUSHDOWN_MAX_STACK);
+            return;
+        }
+        for (earlier = 0; earlier < move; earlier++)
+            if (memcmp(positions[earlier].session, positions[move].session, sizeof positions[move].session) == 0) {
+                printf("move %u leads back to the position before move %u, and so on for ever\n", move, earlier + 1u);
+                return;
+            }
+    }
+    printf("and so on; %d moves are shown\n", MOST_MOVES);
+}
+
 int main(int argc, char **argv)
 {
     static uint8_t file[PUSHDOWN_MAX_FILE + 1u];
@@ -150,6 +240,7 @@ int main(int argc, char **argv)
     uint32_t answer, rule;
     uint64_t moves = 0;
     size_t file_len, position_len, i;
+    struct solved solved;
     long length;
 
     if (pushdown_version() != PUSHDOWN_VERSION) {
@@ -200,6 +291,9 @@ int main(int argc, char **argv)
         printf("\n");
     }
 
+    solved.file = file;
+    solved.file_len = file_len;
+    solved.table = table;
     start_session(session, position, position_len);
     for (;;) {
         answer = pushdown_judge(file, file_len, table, PUSHDOWN_MAX_TABLE, position, position_len, verdict,
@@ -210,6 +304,7 @@ int main(int argc, char **argv)
         switch (verdict[PUSHDOWN_JUDGE_KIND]) {
         case PUSHDOWN_LOST:
             printf(" lost\n");
+            print_why_lost(&solved, session, verdict);
             return NOT_REACHED;
         case PUSHDOWN_TARGET:
             printf(" target after %" PRIu64 " moves\n", moves);

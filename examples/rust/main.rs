@@ -30,7 +30,7 @@ fn worst(file: &[u8], table: &[u32], session: &Session) -> Result<(u32, Session)
             Err(refused) => return Err(refused),
         }
         let bound = match pushdown::judge(file, table, &after.position())? {
-            Verdict::Lost => u64::MAX,
+            Verdict::Lost { .. } => u64::MAX,
             Verdict::Target => 0,
             Verdict::Eloise { bound, .. } | Verdict::Abelard { bound } => bound,
         };
@@ -67,7 +67,11 @@ fn play(file: &[u8], position: &[u8]) -> Result<bool, Refused> {
         let position = session.position();
         print!("{} ", shown(&position));
         match pushdown::judge(file, &table, &position)? {
-            Verdict::Lost => {
+            Verdict::Lost { rule: Some(rule) } => {
+                println!("lost by rule {rule}");
+                return Ok(false);
+            }
+            Verdict::Lost { rule: None } => {
                 println!("lost");
                 return Ok(false);
             }

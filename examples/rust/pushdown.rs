@@ -127,7 +127,9 @@ pub struct Solved {
 
 #[derive(Clone, Copy, Debug, PartialEq, Eq)]
 pub enum Verdict {
-    Lost,
+    /// With the lowest rule of Abelard's that leads to a lost position: none on Éloise's turn, and where no rule does, which only
+    /// comes over a table from elsewhere.
+    Lost { rule: Option<u32> },
     Target,
     Eloise { rule: u32, bound: u64 },
     Abelard { bound: u64 },
@@ -193,7 +195,7 @@ pub fn judge(file: &[u8], table: &[u32], position: &[u8]) -> Result<Verdict, Ref
     };
     answer(number, out[0])?;
     Ok(match out[1] {
-        1 => Verdict::Lost,
+        1 => Verdict::Lost { rule: (out[2] as u32).checked_sub(1) },
         2 => Verdict::Target,
         3 => Verdict::Eloise { rule: out[2] as u32, bound: out[3] },
         _ => Verdict::Abelard { bound: out[3] },

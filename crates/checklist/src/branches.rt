@@ -1,5 +1,5 @@
-// Positions where a branch of Abelard's loses: they are lost, although other rules of his lead to won positions. Beside them
-// stand positions where no rule of his loses, and one of Éloise's, who needs one rule that wins.
+// Positions where a branch of Abelard's loses: they are lost, although other rules of his lead to won positions, and the verdict
+// names the rule that loses. Beside them stand positions where no rule of his loses, and one of Éloise's, who needs one rule that wins.
 //
 // The verdicts are worked out by hand from document 01. That the rules lead to so many won and lost positions is found by
 // playing each of them and asking the judge. It leaves out stacks of more than one letter above the bottom.
@@ -17,8 +17,10 @@ use script::beyond;
 use script::front;
 use script::front_words;
 use script::lent;
+use script::up;
 use script::wide;
 use script::word;
+use script::word_of;
 use session::Session;
 use solver::solve;
 
@@ -50,7 +52,7 @@ fn case_at(i: usize) -> Case {
     }
 }
 
-// Abelard's position where this rule loses and so many others do not.
+// Abelard's position where this rule loses and so many others do not. The verdict has its number plus 1.
 fn lost_by(sample: Sample, won: usize, rule: u32) -> Case {
     Case {
         sample,
@@ -58,7 +60,7 @@ fn lost_by(sample: Sample, won: usize, rule: u32) -> Case {
         won,
         lost: 1,
         worst: rule,
-        verdict: Judged::new(Judged::LOST, 0, Judged::NONE),
+        verdict: Judged::new(Judged::LOST, word_of(up(word(rule))), Judged::NONE),
     }
 }
 
@@ -199,7 +201,15 @@ fn verdict_after(j: Judged, line: Line) -> Line {
             .word(b", bound ")
             .number(j.bound),
         Judged::ABELARD => line.word(b"won, bound ").number(j.bound),
-        Judged::LOST => line.word(b"lost"),
+        Judged::LOST => lost_after(j.rule, line),
         _ => line.word(b"otherwise"),
     }
+}
+
+// The rule of Abelard's that leads to a lost position, by its number, if the verdict has one.
+fn lost_after(rule: u32, line: Line) -> Line {
+    if rule == 0 {
+        return line.word(b"lost");
+    }
+    line.word(b"lost by rule ").number((rule - 1) as u64)
 }

@@ -13,7 +13,8 @@ use script::word_of;
 use session::Session;
 use session::play_move;
 
-// What the judge says of a position. The rule is Éloise's, and the bound is Judged::NONE where there is none.
+// What the judge says of a position. The rule is Éloise's; of a lost position it is the number of Abelard's plus 1, or 0. The bound is
+// Judged::NONE where there is none.
 pub struct Judged {
     pub kind: usize,
     pub rule: u32,

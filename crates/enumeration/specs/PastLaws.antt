@@ -14,7 +14,7 @@ use Rattle.game.specs.SetLaws.{none-has}
 use Rattle.game.specs.Game.{Rule, PushdownGame, ofHead}
 use Rattle.game.specs.StoredLaws.{noRule}
 use Rattle.game.specs.ListLaws.{_∈_, test, clash, both, filter-in, in-filter, map-in, in-map, flatMap-in, in-flatMap}
-use Rattle.family.specs.DigitLaws.{has-and}
+use Rattle.game.specs.DigitLaws.{has-and}
 use Rattle.table.specs.Table.{Entry}
 use Rattle.judge.specs.Worth.{entryOfHead}
 use Rattle.rounds.specs.Rounds.{members, setsOf}

@@ -15,7 +15,7 @@ use Rattle.game.specs.Sets.{has}
 use Rattle.game.specs.SetLaws.{none-has, single-has, has-single}
 use Rattle.game.specs.ListLaws.{test, clash, conj, left-or, right-or}
 use Rattle.family.specs.Family.{holds, Elsewhere, Put, Cleared, Copied, Joined, Without, TakenIn}
-use Rattle.family.specs.DigitLaws.{has-or, has-less}
+use Rattle.game.specs.DigitLaws.{has-or, has-less}
 use Rattle.family.proofs.Digits.{digit-shift}
 use Rattle.family.proofs.Places.{at-front}
 

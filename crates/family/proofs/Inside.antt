@@ -13,7 +13,7 @@ use Rattle.game.specs.Sets.{has, union}
 use Rattle.game.specs.SetLaws.{union-below}
 use Rattle.game.specs.ListLaws.{test, allBelow-at, at-allBelow}
 use Rattle.game.specs.Questions.{allBelow}
-use Rattle.family.specs.DigitLaws.{has-or}
+use Rattle.game.specs.DigitLaws.{has-or}
 
 -- two tests are the same if each passes where the other does
 pub same-test : (a b : Bool) → (a ≡ true → b ≡ true) → (b ≡ true → a ≡ true) → a ≡ b

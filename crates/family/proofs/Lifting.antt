@@ -20,7 +20,7 @@ use Rattle.game.specs.UnionLaws.{union-assoc}
 use Rattle.game.specs.ListLaws.{test, both, conj}
 use Rattle.family.specs.Family.{Lifts}
 use Rattle.family.specs.Masks.{Masks}
-use Rattle.family.specs.DigitLaws.{has-and}
+use Rattle.game.specs.DigitLaws.{has-and}
 use Rattle.family.proofs.Digits.{has-shifted, state-within, digit-set, digit-cleared, union-same, union-more}
 use Rattle.family.proofs.Unions.{no-carry}
 

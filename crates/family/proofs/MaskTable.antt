@@ -16,7 +16,7 @@ use Rattle.game.specs.SetLaws.{none-has}
 use Rattle.game.specs.ListLaws.{allBelow-at}
 use Rattle.game.specs.Questions.{allBelow}
 use Rattle.family.specs.Masks.{Raising}
-use Rattle.family.specs.DigitLaws.{has-and, has-less}
+use Rattle.game.specs.DigitLaws.{has-and, has-less}
 use Rattle.family.proofs.Digits.{zero-sets, one-sets, two-sets, three-sets, four-sets, five-sets}
 use Rattle.family.proofs.Entries.{every, every-at}
 use Rattle.family.proofs.Inside.{inside, inside-none, inside-more, inside-is}

@@ -1,5 +1,6 @@
 pub mod Bounds
 pub mod Filling
+pub mod LostRules
 pub mod Members
 pub mod Passes
 pub mod Recursion

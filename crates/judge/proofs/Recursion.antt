@@ -1,5 +1,5 @@
 -- The recursion on a stack's rest: the part below the top, and that worths stay far below none.
-use Prim.Native.Nat.{ℕ, _*_, _-_, _^_, _<_, _≤_}
+use Prim.Native.Nat.{ℕ, _*_, _-_, _<_, _≤_}
 use mathlib.Core.Path.{_≡_, refl, sym, ap, _∙_}
 use mathlib.Core.Logic.{⊎-elim}
 use mathlib.Core.Bool.{true, false}
@@ -11,14 +11,13 @@ use lib.ListN.{length, getD, take, drop, length-drop}
 use lib.Seq.{take-all}
 use lib.Dec.{ltb}
 use borrow.Author.Tests.{ltb-true, ltb-false}
-use Rattle.game.specs.Limits.{maxRounds}
+use Rattle.game.specs.Limits.{maxStates, maxRounds, maxStack}
 use Rattle.game.specs.ListLaws.{test}
 use Rattle.game.specs.declared.game.Sizes.{Sizes}
 use Rattle.table.specs.Table.{entriesOf}
 use Rattle.judge.specs.Worth.{Automaton, baseWeight, worthIn, step, worths}
-use Rattle.judge.specs.Tabulate.{tabulate-length}
-use Rattle.judge.specs.Range.{WeightsUpTo, worth-range, baseWeight-mono}
-use Rattle.judge.specs.Machine.{machine, automatonOf, Tame, Young, Low, Lows}
+use Rattle.judge.specs.Range.{WeightsUpTo, worth-range, baseWeight-mono, length-worths}
+use Rattle.judge.specs.Machine.{machine, automatonOf, mostBelow, Tame, Young, Low, Lows}
 use Rattle.judge.specs.MachineLaws.{past, tame}
 
 -- the part of a stack after its top letter
@@ -39,23 +38,18 @@ pub top-letter : (w : List ℕ) → (length w ≡ 0 → ⊥) → w ≡ getD w 0 
 top-letter [] n = absurd (n refl)
 top-letter (a ∷ w) n = refl
 
-pub length-worths : (A : Automaton) (w : List ℕ) → length (worths A w) ≡ A .states
-unfolding worths step
-length-worths A [] = tabulate-length _ (A .states)
-length-worths A (a ∷ w) = tabulate-length _ (A .states)
-
-module _ (sizes : Sizes) (small : sizes .states ≤ 32) (words : List ℕ) (young : Young words) where
+module _ (sizes : Sizes) (small : sizes .states ≤ maxStates) (words : List ℕ) (young : Young words) where
   abbrev A : Automaton
   A = automatonOf sizes (entriesOf words)
 
   up-to : WeightsUpTo A (baseWeight maxRounds)
   up-to e m = baseWeight-mono (young e m)
 
-  largest-sum : 256 * baseWeight maxRounds ≤ 2 ^ 60
+  largest-sum : maxStack * baseWeight maxRounds ≤ mostBelow
   unfolding baseWeight
   largest-sum = omega arith
 
-  pub lows : (w : List ℕ) → length w ≤ 256 → Lows (worths A w)
+  pub lows : (w : List ℕ) → length w ≤ maxStack → Lows (worths A w)
   lows w h q =
       ⊎-elim
       (λ (p : ltb q (sizes .states) ≡ true). bounded (worthIn (worths A w) q) refl (ltb-true q (sizes .states) p))
@@ -67,11 +61,14 @@ module _ (sizes : Sizes) (small : sizes .states ≤ 32) (words : List ℕ) (youn
       bounded (some m) e l =
           omega (arith, worth-range A (baseWeight maxRounds) up-to w q m l e, mul-le-mul-right (baseWeight maxRounds) h, largest-sum)
 
-  pub tame-worths : (w : List ℕ) → length w ≤ 256 → Tame (machine (worths A w))
+  pub tame-worths : (w : List ℕ) → length w ≤ maxStack → Tame (machine (worths A w))
   tame-worths w h = tame (worths A w) (omega (arith, length-worths A w)) (lows w h)
 
   -- the top letter's step over the worths of the rest below it
-  pub stepped : (w : List ℕ) → length w ≤ 256 → (length w ≡ 0 → ⊥) → (below : List ℕ) → below ≡ machine (worths A (take (length w - 1) (drop 1 w))) → (r : List ℕ) → ((rest : List (Option ℕ)) → below ≡ machine rest → length rest ≡ sizes .states → Lows rest → r ≡ machine (step A (getD w 0 0) rest)) → r ≡ machine (worths A w)
+  pub stepped : (w : List ℕ) → length w ≤ maxStack → (length w ≡ 0 → ⊥) → (below : List ℕ)
+      → below ≡ machine (worths A (take (length w - 1) (drop 1 w))) → (r : List ℕ)
+      → ((rest : List (Option ℕ)) → below ≡ machine rest → length rest ≡ sizes .states → Lows rest → r ≡ machine (step A (getD w 0 0) rest))
+      → r ≡ machine (worths A w)
   unfolding worths
   stepped w h n below b r s =
       let v = drop 1 w in

@@ -1,35 +1,32 @@
 -- The refusals before the verdict, and what is known once they are passed.
-use Prim.Native.Nat.{ℕ, _-_, _<_, _≤_}
+use Prim.Native.Nat.{ℕ, _-_}
 use mathlib.Core.Path.{_≡_, refl, sym, ap, subst, _∙_}
 use mathlib.Core.List.{List, [], _∷_}
 use native.Mathlib.Omega.{arith}
 use lib.ListN.{length, getD, drop, take, length-drop}
-use lib.Dec.{ltb}
-use borrow.Author.Tests.{ltb-true, ltb-false}
 use types.Run.{OneOf, miss}
 use denote.Enum.Declared.{tagOf}
 use Rattle.game.specs.Game.{PushdownGame}
-use Rattle.game.specs.GoodGame.{Ranged}
 use Rattle.game.specs.ListLaws.{_∈_}
 use Rattle.game.specs.Outcome.{Outcome, done, refused, after, answer, said}
 use Rattle.game.specs.Position.{form}
 use Rattle.game.specs.Questions.{reading}
 use Rattle.game.specs.Stored.{sizesOf, Reports}
-use Rattle.game.specs.Held.{Read}
+use Rattle.game.specs.Held.{Held, safe, Read}
 use Rattle.game.specs.declared.game.Answer.{Answer}
 use Rattle.game.specs.declared.game.Answer.the-variants.{Done, Refused}
 use Rattle.game.specs.declared.game.Reading.{Reading}
 use Rattle.game.specs.declared.game.Sizes.{Sizes}
 use Rattle.game.proofs.game.Answer as AnswerIs
 use Rattle.table.specs.Table.{entriesOf, tableForm}
-use Rattle.table.specs.FormLaws.{accepted, cond-done}
+use Rattle.table.specs.FormLaws.{accepted}
 use Rattle.table.specs.OrderLaws.{accepted-in-order}
-use Rattle.table.specs.Rows.{Sorted, UsedPart}
+use Rattle.table.specs.Rows.{UsedPart}
 use Rattle.judge.specs.Verdict.{Verdict, verdict, verdictOfBytes, judgingGame, judging}
-use Rattle.judge.specs.PositionLaws.{cond-not}
+use Rattle.judge.specs.PositionLaws.{InBytes, in-bytes}
 use Rattle.judge.proofs.Recursion.{below-top, top-letter}
 use Rattle.judge.specs.Judged.{judged, refusedAs}
-use Rattle.judge.specs.Machine.{Young}
+use Rattle.judge.specs.Machine.{Young, Asked}
 
 -- an answer that is not done refuses whatever comes after it
 pub refusal-told : {A : Type 0} (o : Outcome A) (a : Answer) → said a ≡ answer o → OneOf (1 ∷ []) (tagOf AnswerIs.the-type a) → (next : A → Outcome Verdict) → judged (refusedAs a) ≡ after o next
@@ -42,20 +39,6 @@ refusal-told (refused n p) (Refused q k) e t next = cc
 pub plain : (o : Outcome (Unit {0})) → answer o ≡ o
 plain (done u) = refl
 plain (refused n p) = refl
-
--- what a position in form says of its bytes
-pub record InBytes (control : ℕ) (bytes : List ℕ) : Type 0 where
-  pub many : 2 ≤ length bytes
-  pub few : length bytes ≤ 257
-  pub state : getD bytes 0 0 < control
-
-pub in-bytes : (control letters : ℕ) (bytes : List ℕ) → form control letters bytes ≡ done tt → InBytes control bytes
-unfolding form
-in-bytes control letters bytes e =
-    let a = cond-not (ltb (length bytes) 2) _ 14 0 e in
-    let b = cond-not (ltb 257 (length bytes)) _ 14 0 (a .1) in
-    let c = cond-done (ltb (getD bytes 0 0) control) _ 14 0 (b .1) in
-    record { many = ltb-false _ _ (a .0); few = ltb-false _ _ (b .0); state = ltb-true _ _ (c .0) }
 
 module _ (g : PushdownGame) (words position : List ℕ) where
   -- 13 is answered no
@@ -101,15 +84,21 @@ pub by-game : (g : PushdownGame) (sizes : Sizes) (position : List ℕ) → sizes
 by-game g sizes position e a f = f ∙ ap (λ (s : Sizes). form (s .control) (s .letters) position) e
 
 -- what the verdict asks
-pub ready : (g : PushdownGame) → Ranged g → (sizes : Sizes) → sizes ≡ sizesOf g → (words position : List ℕ) → tableForm g words ≡ done tt → InBytes (sizes .control) position → (part : List ℕ) → UsedPart words part → (getD position 0 0 < sizes .states) × (sizes .states ≤ 32) × (0 < length (take (length position - 1) (drop 1 position))) × (length (take (length position - 1) (drop 1 position)) ≤ 256) × Young part × Sorted part
-ready g r sizes e words position t b part u =
+pub ready : (g : PushdownGame) (sizes : Sizes) (rules : List ℕ) → Held g sizes rules → (words position : List ℕ) → tableForm g words ≡ done tt
+    → InBytes (sizes .control) position → (part : List ℕ) → UsedPart words part
+    → Asked sizes rules part (getD position 0 0) (take (length position - 1) (drop 1 position))
+ready g sizes rules h words position t b part u =
     let n = ap length (below-top position) ∙ length-drop 1 position in
-    let c = ap (λ (s : Sizes). s .control) e in
-    let k = ap (λ (s : Sizes). s .states) e in (
-      omega (arith, b .state, r .control),
-      omega (arith, r .states),
-      omega (arith, b .many),
-      omega (arith, b .few),
-      λ x m. young g words t x (subst (x ∈_) (u .same (accepted-in-order g words t)) m),
-      u .sorted (accepted-in-order g words t),
-    )
+    let c = ap (λ (s : Sizes). s .control) (h .sized) in
+    let k = ap (λ (s : Sizes). s .states) (h .sized) in
+    record {
+      lent =
+          record {
+            safe = safe g sizes rules h;
+            young = λ x m. young g words t x (subst (x ∈_) (u .same (accepted-in-order g words t)) m);
+            sorted = u .sorted (accepted-in-order g words t);
+          };
+      there = omega (arith, b .state, h .ranged .control);
+      some-letters = omega (arith, b .many);
+      short = omega (arith, b .few);
+    }

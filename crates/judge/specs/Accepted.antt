@@ -23,14 +23,14 @@ use Rattle.judge.specs.Within.{AtMost, exact, most-of, Within, worth-wit
 use Rattle.judge.specs.Range.{WeightsUpTo, baseWeight-mono}
 use Rattle.judge.specs.Target.{head-is, zero-or-more, weight-zero}
 use Rattle.judge.specs.Advice.{within-head, advice}
-use Rattle.judge.specs.Verdict.{target, eloise, abelard, orZero, toMove, verdictOf, verdictOver, verdict, verdictOfBytes, judgingGame}
+use Rattle.judge.specs.Verdict.{target, eloise, abelard, orZero, toMove, lostField, verdictOf, verdictOver, verdict, verdictOfBytes, judgingGame}
 
 -- a verdict for Éloise is that of a bound above 0
-eloise-told : (abelards : Bool) (rule x : Option ℕ) (n b : ℕ) → verdictOf abelards rule x ≡ eloise n b
+eloise-told : (abelards : Bool) (field : ℕ) (rule x : Option ℕ) (n b : ℕ) → verdictOf abelards field rule x ≡ eloise n b
     → (x ≡ some b) × (0 < b) × (orZero rule ≡ n)
 unfolding verdictOf toMove
-eloise-told abelards rule none n b e = let z : _≡_ {A = ℕ} 0 1 = cc in absurd (omega arith)
-eloise-told abelards rule (some c) n b e = moved abelards (test (eqb c 0)) e
+eloise-told abelards field rule none n b e = let z : _≡_ {A = ℕ} 0 1 = cc in absurd (omega arith)
+eloise-told abelards field rule (some c) n b e = moved abelards (test (eqb c 0)) e
   where
     moved : (o : Bool) → (eqb c 0 ≡ true) ⊎ (eqb c 0 ≡ false) → cond (eqb c 0) target (toMove o rule c) ≡ eloise n b
         → (some c ≡ some b) × (0 < b) × (orZero rule ≡ n)
@@ -125,7 +125,7 @@ module _ (g : PushdownGame) (table : List Entry) (forms : AllInForm g table) whe
   eloise-rule p a rest n b owner e =
       let A = automaton g table in
       let x = stepWorth A (worths A rest) p a in
-      let v = eloise-told (isAbelard g p) (adviceAt A (worths A rest) p a x) x n b e in
+      let v = eloise-told (isAbelard g p) (lostField g A p a (worths A rest)) (adviceAt A (worths A rest) p a x) x n b e in
       let r = advised-rule p a rest b owner (v .0) (v .1) in
       let same : n ≡ r .0 =
       sym (v .2) ∙ ap (λ (y : Option ℕ). orZero (adviceAt A (worths A rest) p a y)) (v .0) ∙ ap orZero (r .1)

@@ -28,7 +28,7 @@ use Rattle.judge.specs.Range.{within-range}
 use Rattle.judge.specs.Advice.{head-within, within-head}
 use Rattle.judge.specs.Accepted.{AllInForm, weights}
 use Rattle.judge.specs.Verdict.{Verdict, lost, target, eloise, abelard, toMove, verdictOf, verdictOver, verdict, verdictOfBytes, judgingGame, judging}
-use Rattle.judge.specs.PositionLaws.{bytes-short}
+use Rattle.judge.specs.PositionLaws.{in-bytes}
 use Rattle.judge.specs.Judged.{judged}
 use Rattle.judge.specs.declared.verdict.Verdict.{Verdict as Answered}
 use Rattle.judge.specs.declared.verdict.Verdict.the-variants.{Lost, Target, Eloise, Abelard, Refused}
@@ -53,10 +53,10 @@ bound-most g table forms p a rest b e =
     let run = within-range A k (weights g table forms) (a ∷ rest) b p (head-within A a rest p b (exact e)) in
     most-of e (within-head A a rest p (suc (length rest) * k) run)
 
-bounded : (abelards : Bool) (rule x : Option ℕ) (k : ℕ) → ((b : ℕ) → x ≡ some b → b ≤ k) → boundIn (verdictOf abelards rule x) ≤ k
+bounded : (abelards : Bool) (field : ℕ) (rule x : Option ℕ) (k : ℕ) → ((b : ℕ) → x ≡ some b → b ≤ k) → boundIn (verdictOf abelards field rule x) ≤ k
 unfolding verdictOf toMove boundIn
-bounded abelards rule none k h = omega arith
-bounded abelards rule (some b) k h = by (test (eqb b 0)) abelards
+bounded abelards field rule none k h = omega arith
+bounded abelards field rule (some b) k h = by (test (eqb b 0)) abelards
   where
     by : (eqb b 0 ≡ true) ⊎ (eqb b 0 ≡ false) → (o : Bool) → boundIn (cond (eqb b 0) target (toMove o rule b)) ≤ k
     by (inl t) o = rw t (omega arith)
@@ -68,7 +68,7 @@ pub verdict-most : (g : PushdownGame) (table : List Entry) → AllInForm g table
     → boundIn (verdict g table p stack) ≤ length stack * baseWeight maxRounds
 unfolding verdict verdictOver boundIn
 verdict-most g table forms p [] = omega arith
-verdict-most g table forms p (a ∷ rest) = bounded (isAbelard g p) _ _ (suc (length rest) * baseWeight maxRounds) (bound-most g table forms p a rest)
+verdict-most g table forms p (a ∷ rest) = bounded (isAbelard g p) _ _ _ (suc (length rest) * baseWeight maxRounds) (bound-most g table forms p a rest)
 
 bytes-most : (g : PushdownGame) (table : List Entry) → AllInForm g table → (position : List ℕ) → length position ≤ suc maxStack
     → boundIn (verdictOfBytes g table position) ≤ mostBound
@@ -88,7 +88,7 @@ module _ (file words position : List ℕ) where
       let t = after-done (tableForm g words) _ (r .2) in
       let f = after-done (form (g .control) (g .letters) position) _ (t .2) in
       rw (← done-same (f .2))
-      (bytes-most g (entriesOf words) (accepted g words (t .1)) position (bytes-short (g .control) (g .letters) position (f .1)))
+      (bytes-most g (entriesOf words) (accepted g words (t .1)) position (in-bytes (g .control) (g .letters) position (f .1) .few))
 
   -- so that none reaches 2^48.
   pub judged-below : (v : Verdict) → judging file words position ≡ done v → boundIn v < 2 ^ 48

@@ -43,7 +43,7 @@ pub fn judge_game(game: Game, table: &[u32], position: &[u8]) -> Verdict
     let Answer::Done = shaped else {
         return refusal(shaped);
     };
-    verdict_on(sizes, used_part(table), position[0], &position[1..])
+    verdict_on(sizes, &rules, used_part(table), position[0], &position[1..])
 }
 
 // A refusal by a question before the verdict. It is called with a refusal only: its callers go on where the answer is done, so

@@ -1,4 +1,5 @@
 // The verdict on a control state and a stack over a table.
+use crate::losing::lost_field;
 use crate::worth::NONE;
 use crate::worth::entry_worth;
 use crate::worth::head_worth;
@@ -10,31 +11,28 @@ use game::has_state;
 use table::EntryWords;
 use table::start_of;
 ghost use mathlib.Core.Path.{_≡_};
-ghost use mathlib.Core.List.{List};
 ghost use mathlib.Core.Option.{Option};
 ghost use Prim.Native.Nat.{ℕ, _≤_, _<_, min};
-ghost use Rattle.game.specs.Limits.{maxStates, maxStack, maxRounds};
-ghost use lib.ListN.{length, getD};
+ghost use Rattle.game.specs.Limits.{maxStates, maxRounds};
 ghost use Rattle.game.specs.Game.{PushdownGame};
 ghost use Rattle.game.specs.Outcome.{done};
-ghost use Rattle.game.specs.Stored.{sizesOf};
+ghost use Rattle.game.specs.Held.{Held};
 ghost use Rattle.table.specs.Table.{entryOf, entriesOf};
 ghost use Rattle.table.specs.Rows.{Sorted};
-ghost use Rattle.judge.specs.Worth.{leastOver, headRule, coded, fieldNumber};
+ghost use Rattle.judge.specs.Worth.{coded, fieldNumber};
 ghost use Rattle.judge.specs.Verdict.{verdict as verdictIs, orZero};
 ghost use Rattle.judge.specs.Machine.{
-  machine,
-  automatonOf,
   Tame,
   Young,
-  Lows,
+  Asked,
   leastNumber,
   ruleNumber,
   lesserRule,
 };
 ghost use Rattle.judge.specs.Judged.{judged, Fielded};
 
-// What judging answers. Unused fields are 0; `Lost` has a rule field, which is 0.
+// What judging answers. Unused fields are 0. `Lost` has a rule field: for a position of Abelard's 1 + the number of his lowest rule that
+// leads to a lost position; 0 for a position of Éloise's, and where no rule does, as over some tables from elsewhere.
 pub enum Verdict {
     Lost { rule: u32 },
     Target,
@@ -45,17 +43,18 @@ pub enum Verdict {
 
 // The verdict on control state `state` and a stack, top letter first, that are in form, over the used entries of a table in
 // form. What lies below the top is handed on as the part of the stack that it is; of the top letter only the head is asked.
-pub fn verdict_on(sizes: Sizes, table: &[u32], state: u8, stack: &[u8]) -> Verdict
-    requires { ⌜ (state < sizes .states) × (sizes .states ≤ maxStates) × (0 < length (now stack)) × (length (now stack) ≤ maxStack)
-        × Young (now table) × Sorted (now table) ⌝ }
-    ensures { λ r. ⌜ ((g : PushdownGame) → sizes ≡ sizesOf g
+pub fn verdict_on(sizes: Sizes, rules: &[u8], table: &[u32], state: u8, stack: &[u8]) -> Verdict
+    requires { ⌜ Asked sizes (now rules) (now table) state (now stack) ⌝ }
+    ensures { λ r. ⌜ ((g : PushdownGame) → Held g sizes (now (rules .entry))
         → judged r ≡ done (verdictIs g (entriesOf (now (table .entry))) state (now (stack .entry)))) ⌝ }
 {
     let top = stack[0];
     let below = worths(sizes, table, &stack[1..]);
     let bound = head_worth(table, state, top, sizes.states, &below);
     if bound == NONE {
-        return Verdict::Lost { rule: 0 };
+        return Verdict::Lost {
+            rule: lost_field(sizes, rules, table, state, top, &below),
+        };
     }
     if bound == 0 {
         return Verdict::Target;

@@ -1,8 +1,10 @@
 // Files, tables and positions built in buffers. Each function answers the offset after what it put; what does not fit the
 // buffer is left out.
 use script::Numbers;
+use script::beyond;
 use script::byte_of;
 use script::put;
+use script::put_long;
 use script::put_times;
 use script::up;
 use script::word_of;
@@ -13,6 +15,34 @@ pub fn put_high(bytes: &mut [u8], state: usize, letter: usize, n: usize) -> usiz
     let at = put(bytes, 0, byte_of(state));
     let end = put_times(bytes, at, n, byte_of(letter));
     put(bytes, end, 0)
+}
+
+// f rules from state a and letter b to state c, each with two letters written: the pairs of e letters from d on, in order.
+pub fn put_pairs(file: &mut [u8], at: usize, n: Numbers) -> usize {
+    let count = n.f;
+    let mut to = at;
+    let mut i = 0;
+    while i < count {
+        to = put_pair(file, to, n, i);
+        i += 1;
+    }
+    to
+}
+
+// The rule of pair i.
+fn put_pair(file: &mut [u8], at: usize, n: Numbers, i: usize) -> usize {
+    let letters = n.e;
+    if letters == 0 {
+        return at;
+    }
+    let above = byte_of(beyond(n.d, i / letters));
+    let below = byte_of(beyond(n.d, i % letters));
+    put_long(
+        file,
+        at,
+        4,
+        [byte_of(n.a), byte_of(n.b), byte_of(n.c), 2, above, below],
+    )
 }
 
 // One word.

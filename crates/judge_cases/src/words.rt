@@ -8,6 +8,7 @@
 //   length N             its length
 //   x N BYTE             a byte, as a decimal number, N times after it
 //   d N                  a new file: sample D with N letters above the bottom
+//   rules P A Q B N K    K rules after it, (P,A) to state Q with two letters written: the pairs of N letters from B on, in order
 //
 // Words that build a table, in a buffer of 6,150 words:
 //   table N              a new table: N words, all 0; its next entry is entry 0
@@ -21,12 +22,13 @@
 //   high P A N           a new position: control state, N times a letter, and the bottom
 //
 // Words that are cases, each of one judgement:
-//   verdict lost, verdict target, verdict eloise RULE BOUND, verdict abelard BOUND
+//   verdict lost FIELD (0 if left out), verdict target, verdict eloise RULE BOUND, verdict abelard BOUND
 //   no QUESTION PLACE    it is refused so
 use crate::build::clear;
 use crate::build::front_words;
 use crate::build::put_entry;
 use crate::build::put_high;
+use crate::build::put_pairs;
 use crate::build::put_sets;
 use crate::build::put_word;
 use crate::build::skip;
@@ -99,7 +101,7 @@ fn turn(s: State, script: &[u8], file: &mut [u8], table: &mut [u32], position: &
         tally,
     };
     match word {
-        b'f' | b'm' | b'p' | b'l' | b'x' | b'd' => of_file(now, word, script, file),
+        b'f' | b'm' | b'p' | b'l' | b'x' | b'd' | b'r' => of_file(now, word, script, file),
         b't' | b'e' | b's' | b'u' | b'w' => of_table(now, word, script, table),
         b'a' | b'h' => of_position(now, word, script, position),
         _ => of_case(now, word, script, file, table, position),
@@ -134,6 +136,7 @@ fn file_numbers(word: u8, script: &[u8], at: usize, file: &mut [u8], length: usi
     let to = match word {
         b'x' => put_times(file, length, n.a, byte_of(n.b)),
         b'd' => put_d(file, n.a),
+        b'r' => put_pairs(file, length, n),
         _ => n.a,
     };
     Ends {

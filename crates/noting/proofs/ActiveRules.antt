@@ -15,7 +15,7 @@ use Rattle.game.specs.SetLaws.{none-has}
 use Rattle.game.specs.LowestLaws.{LowestOf, Cleared, cleared}
 use Rattle.game.specs.ListLaws.{test, clash, conj, left-or, right-or}
 use Rattle.family.specs.Family.{holds, Put, Joined}
-use Rattle.family.specs.DigitLaws.{has-and, has-or}
+use Rattle.game.specs.DigitLaws.{has-and, has-or}
 use Rattle.noting.specs.Signs.{Reads, Left}
 use Rattle.noting.specs.Reading.{Readable, Grows, Marked, Stays, Met, Summed, Started, FirstTo, SecondTo}
 

@@ -19,7 +19,7 @@ use Rattle.game.specs.ListLaws.{test, clash, not-true, both}
 use Rattle.game.specs.Game.{PushdownGame}
 use Rattle.table.specs.Table.{Entry}
 use Rattle.family.specs.Family.{holds, Elsewhere, Joined, Copied, Cleared}
-use Rattle.family.specs.DigitLaws.{has-less}
+use Rattle.game.specs.DigitLaws.{has-less}
 use Rattle.unions.specs.Expand.{AllWithin}
 use Rattle.unions.specs.Pool.{Head, Layout, Kept, HeadsHold, HeadsGrew}
 use Rattle.unions.specs.PoolLaws.{next-row, apart}

@@ -19,7 +19,7 @@ use Rattle.game.specs.GoodGame.{Good}
 use Rattle.table.specs.Table.{Entry, firstWord}
 use Rattle.table.specs.Pairwise.{Ascending}
 use Rattle.family.specs.Family.{holds}
-use Rattle.family.specs.DigitLaws.{has-less, has-or}
+use Rattle.game.specs.DigitLaws.{has-less, has-or}
 use Rattle.rounds.specs.Rounds.{nextRound}
 use Rattle.rounds.specs.RoundLaws.{AllRanged}
 use Rattle.unions.specs.Expand.{expand, Elements}

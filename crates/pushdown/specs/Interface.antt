@@ -18,10 +18,10 @@ use Rattle.solver.specs.Leaving.{Call, Report, solveCall}
 abbrev pub wrongLength : ℕ
 wrongLength = 100
 
--- The version: the major number is raised where a caller must change (a number, a layout or a limit), the minor one by what is only
--- added.
+-- The version: the major number is raised where a caller must change (a number, a word, a layout or a limit), the minor one by what is
+-- only added.
 abbrev pub versionMajor : ℕ
-versionMajor = 3
+versionMajor = 4
 
 abbrev pub versionMinor : ℕ
 versionMinor = 0
@@ -82,7 +82,8 @@ solveWith file table work out =
     cond (eqb (length out) solveWords) (solveTold (solveCall file (length table) (length work)))
     (record { number = wrongLength; out = out; table = table; work = work })
 
--- Judging: place, kind of verdict (1 lost, 2 target, 3 Éloise's, 4 Abelard's; 0 after a refusal), rule, bound.
+-- Judging: place, kind of verdict (1 lost, 2 target, 3 Éloise's, 4 Abelard's; 0 after a refusal), rule, bound. The rule is Éloise's number,
+-- or of a lost position the rule field: a number plus 1, or 0.
 unfoldable pub judgeTold : Outcome Verdict → Told
 judgeTold (done (lost rule)) = record { number = 0; out = 0 ∷ 1 ∷ rule ∷ 0 ∷ [] }
 judgeTold (done target) = record { number = 0; out = 0 ∷ 2 ∷ 0 ∷ 0 ∷ [] }

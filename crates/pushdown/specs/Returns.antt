@@ -1,5 +1,6 @@
--- What the functions of the C interface but `pushdown_version` can return, whatever they are given, and the largest bound that is
--- written. A caller that handles these numbers handles all that come; 15 is none of them.
+-- What the functions of the C interface but `pushdown_version` can return, whatever they are given, the largest bound that is
+-- written, and what the rule word of a lost position says. A caller that handles these numbers handles all that come; 15 is none of
+-- them.
 use Prim.Native.Nat.{ℕ, _<_, _≤_, _^_}
 use native.Mathlib.Omega.{arith}
 use mathlib.Core.Path.{_≡_, refl, subst}
@@ -16,6 +17,7 @@ use Rattle.game.specs.Questions.{any, reading}
 use Rattle.game.specs.ListLaws.{clash, of-either, right-or}
 use Rattle.game.specs.RefusalLaws.{file-numbers}
 use Rattle.judge.specs.Verdict.{Verdict, lost, target, eloise, abelard, judging}
+use Rattle.judge.specs.LostField.{SaysLost, judged-lost}
 use Rattle.judge.specs.Most.{mostBound, boundIn, judged-most, judge-numbers}
 use Rattle.session.specs.Session.{move}
 use Rattle.session.specs.declared.playing.Session.{Session}
@@ -150,3 +152,24 @@ module _ (file table position out : List ℕ) (four : length out ≡ judgeWords)
 
   pub judge-below : getD (judgeCall file table position out .out) 3 0 < 2 ^ 48
   judge-below = omega (arith, judge-writes)
+
+-- Where the kind that pushdown_judge writes is lost, the rule word is the field of a lost verdict.
+lost-written : (o : Outcome Verdict) → getD (judgeTold o .out) 1 0 ≡ 1 → o ≡ done (lost (getD (judgeTold o .out) 2 0))
+unfolding judgeTold
+lost-written (done (lost rule)) e = refl
+lost-written (done target) e = absurd (omega (arith, e))
+lost-written (done (eloise rule b)) e = absurd (omega (arith, e))
+lost-written (done (abelard b)) e = absurd (omega (arith, e))
+lost-written (refused n k) e = absurd (omega (arith, e))
+
+-- It says of the position's bytes what the judge says, over any table: the number plus 1 of Abelard's lowest-numbered rule that leads to a
+-- position without a bound, or 0.
+pub judge-lost : (file table : List ℕ) (p a : ℕ) (rest out : List ℕ) → length out ≡ judgeWords
+    → getD (judgeCall file table (p ∷ a ∷ rest) out .out) 1 0 ≡ 1
+    → SaysLost file table p a rest (getD (judgeCall file table (p ∷ a ∷ rest) out .out) 2 0)
+unfolding judgeCall
+judge-lost file table p a rest out four kind =
+    let written = eq-eqb (length out) judgeWords four in
+    let o = judging file table (p ∷ a ∷ rest) in
+    let is : getD (judgeTold o .out) 1 0 ≡ 1 = rw written at kind in
+    rw written (judged-lost file table p a rest (getD (judgeTold o .out) 2 0) (lost-written o is))

@@ -19,7 +19,7 @@ use solver::solve;
 ghost use mathlib.Core.Path.{_≡_};
 ghost use Rattle.pushdown.specs.Interface.{version, readCall, solveWith, judgeCall, playCall};
 
-pub const VERSION_MAJOR: u32 = 3;
+pub const VERSION_MAJOR: u32 = 4;
 
 pub const VERSION_MINOR: u32 = 0;
 

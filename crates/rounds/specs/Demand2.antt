@@ -19,7 +19,7 @@ use Rattle.table.specs.Table.{Entry, tableWords}
 use Rattle.judge.specs.Worth.{automaton, worths, stepWorth, adviceAt, bound}
 use Rattle.judge.specs.Within.{none-some, worth-cons}
 use Rattle.judge.specs.PositionLaws.{form-parts}
-use Rattle.judge.specs.Verdict.{Verdict, lost, target, eloise, abelard, toMove, verdictOf, verdictOver, verdict, judging}
+use Rattle.judge.specs.Verdict.{Verdict, lost, target, eloise, abelard, toMove, lostField, verdictOf, verdictOver, verdict, judging}
 use Rattle.rounds.specs.Rounds.{targetEntry, settled}
 use Rattle.rounds.specs.Solving.{Solved, latest, solvingWords}
 use Rattle.table.specs.Pairwise.{Ascending}
@@ -67,10 +67,10 @@ not-lost false true rule b = refl
 not-lost false false rule b = refl
 
 -- a verdict is not lost exactly if there is a bound
-lost-is : (abelards : Bool) (rule x : Option ℕ) → (isLost (verdictOf abelards rule x) ≡ false) ↔ ((b : ℕ) × (x ≡ some b))
+lost-is : (abelards : Bool) (field : ℕ) (rule x : Option ℕ) → (isLost (verdictOf abelards field rule x) ≡ false) ↔ ((b : ℕ) × (x ≡ some b))
 unfolding verdictOf isLost
-lost-is abelards rule none = (λ h. clash refl h, λ b. absurd (none-some (b .1)))
-lost-is abelards rule (some b) = (λ h. (b, refl), λ h. not-lost (eqb b 0) abelards rule b)
+lost-is abelards field rule none = (λ h. clash refl h, λ b. absurd (none-some (b .1)))
+lost-is abelards field rule (some b) = (λ h. (b, refl), λ h. not-lost (eqb b 0) abelards rule b)
 
 verdict-lost : (g : PushdownGame) (table : List Entry) (p : ℕ) (stack : List ℕ) → p < g .states → bottomLast stack ≡ true
     → (isLost (verdict g table p stack) ≡ false) ↔ ((b : ℕ) × (bound g table p stack ≡ some b))
@@ -79,7 +79,7 @@ verdict-lost g table p [] l f = clash f refl
 verdict-lost g table p (a ∷ rest) l f =
     let A = automaton g table in
     let x = stepWorth A (worths A rest) p a in
-    rw (worth-cons A a rest p l) (lost-is (isAbelard g p) (adviceAt A (worths A rest) p a x) x)
+    rw (worth-cons A a rest p l) (lost-is (isAbelard g p) (lostField g A p a (worths A rest)) (adviceAt A (worths A rest) p a x) x)
 
 pub demand-two : (file : List ℕ) (table work : ℕ) (s : Solved) → solvingWords file table work ≡ done s → Judges file table s
 demand-two file table work s e =

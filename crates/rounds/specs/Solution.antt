@@ -76,7 +76,7 @@ module _ (g : PushdownGame) (goodgame : Good g) (n : ℕ) (table : List Entry) (
   pub sound : Sound g table
   sound = rw (at .is) (round-sound g goodgame (at .round) (at .most))
 
-  closed : Closed g table
+  pub closed : Closed g table
   closed = settled-closed g goodgame table (rw (at .is) (round-ranged g goodgame (at .round) .1)) (at .settles)
 
   -- At any height a position is won exactly if it has a bound.

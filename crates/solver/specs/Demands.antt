@@ -1,5 +1,5 @@
--- Demands 2 and 3 of the whole part: from what one call of `solve` promises, and what the judge promises of each call over the
--- words that it left, and from nothing else.
+-- Demands 2 and 3 and Abelard's side of the contest, of the whole part: from what one call of `solve` promises, and what the judge
+-- promises of each call over the words that it left, and from nothing else.
 use Prim.Native.Nat.{ℕ, suc, _<_, _≤_}
 use native.Mathlib.Omega.{arith}
 use mathlib.Core.Path.{_≡_, refl, sym, ap, subst, _∙_}
@@ -13,10 +13,10 @@ use Rattle.game.specs.Game.{PushdownGame}
 use Rattle.game.specs.Outcome.{Outcome, done, refused}
 use Rattle.game.specs.OutcomeLaws.{done-same}
 use Rattle.game.specs.Questions.{reading}
-use Rattle.game.specs.Win.{Position, inForm, isAbelard, Won}
+use Rattle.game.specs.Win.{Position, inForm, isAbelard, Won, Lost as LostPosition}
 use Rattle.table.specs.Table.{entriesOf, isRuleOf}
 use Rattle.judge.specs.Worth.{bound, advised}
-use Rattle.judge.specs.Verdict.{Verdict, target, eloise, abelard, judging}
+use Rattle.judge.specs.Verdict.{Verdict, lost, target, eloise, abelard, judging}
 use Rattle.judge.specs.Judged.{judged}
 use Rattle.judge.specs.declared.verdict.Verdict.{Verdict as Answered}
 use Rattle.judge.specs.declared.verdict.Verdict.the-variants.{
@@ -30,6 +30,7 @@ use Rattle.rounds.specs.Solving.{Solved, solvingWords}
 use Rattle.solver.specs.Leaving.{Call, Report, leaving, solveCall, called}
 use Rattle.rounds.specs.Demand2.{isLost, Judges, demand-two}
 use Rattle.rounds.specs.Demand3.{Plays, Reports, demand-three}
+use Rattle.rounds.specs.StaysLost.{KeepsLost, ReportsLost, Contests, stays-lost}
 use Rattle.solver.specs.declared.solving.Solution.{Solution}
 use Rattle.solver.specs.declared.solving.Solution.the-variants.{Solved as SolvedWith}
 
@@ -62,6 +63,8 @@ pub record Demands (file table work : List ℕ) (lent lent-work entries rounds :
   -- the table is that of the rounds (demand 2), and play under advice over it is what document 01 says (demand 3)
   pub judges : Judges file lent (solvedAs entries rounds table)
   pub plays : Plays file (solvedAs entries rounds table)
+  -- and a contest from a lost position is what document 02 says: no position of it is in the target
+  pub contests : Contests file (solvedAs entries rounds table)
   -- demand 2: up to 256 letters the judge refuses no position in form, and says lost exactly where it is not won
   pub verdicts :
       (pos : Position) → inForm game pos ≡ true → length (pos .stack) ≤ maxStack
@@ -79,6 +82,14 @@ pub record Demands (file table work : List ℕ) (lent lent-work entries rounds :
       → (b : ℕ) → bound game (entriesOf table) p (a ∷ rest) ≡ some b → 0 < b → isAbelard game p ≡ false
       → (n : ℕ) × (advised game (entriesOf table) p a rest ≡ some n) × (isRuleOf game p a n ≡ true)
       × (judge (p ∷ a ∷ rest) ≡ Eloise n b)
+  -- up to 256 letters the rule of a lost position of Abelard's is that which the judge returns, its number plus 1; Éloise's is 0
+  pub lostAbelards :
+      (p a : ℕ) (rest : List ℕ) → inForm game (record { state = p; stack = a ∷ rest }) ≡ true → suc (length rest) ≤ maxStack
+      → LostPosition game (record { state = p; stack = a ∷ rest }) → isAbelard game p ≡ true
+      → (l : KeepsLost game (entriesOf table) p a rest) × (judge (p ∷ a ∷ rest) ≡ Lost (suc (l .rule .number)))
+  pub lostEloises :
+      (p a : ℕ) (rest : List ℕ) → inForm game (record { state = p; stack = a ∷ rest }) ≡ true → suc (length rest) ≤ maxStack
+      → LostPosition game (record { state = p; stack = a ∷ rest }) → isAbelard game p ≡ false → judge (p ∷ a ∷ rest) ≡ Lost 0
 
 -- what each answer of the judge stands for says which it is
 told-some : (x : Answered) (v : Verdict) → judged x ≡ done v → (isRefusal x ≡ false) × (saysLost x ≡ isLost v)
@@ -88,6 +99,13 @@ told-some Target v e = (refl, ap isLost (done-same e))
 told-some (Eloise rule b) v e = (refl, ap isLost (done-same e))
 told-some (Abelard b) v e = (refl, ap isLost (done-same e))
 told-some (JudgeRefused q k) v e = absurd (let z : _≡_ {A = ℕ} 0 1 = cc in omega arith)
+
+is-lost : (x : Answered) (n : ℕ) → judged x ≡ done (lost n) → x ≡ Lost n
+is-lost (Lost rule) n e = cc
+is-lost Target n e = absurd (let z : _≡_ {A = ℕ} 0 1 = cc in omega arith)
+is-lost (Eloise rule b) n e = absurd (let z : _≡_ {A = ℕ} 0 1 = cc in omega arith)
+is-lost (Abelard b) n e = absurd (let z : _≡_ {A = ℕ} 0 1 = cc in omega arith)
+is-lost (JudgeRefused q k) n e = absurd (let z : _≡_ {A = ℕ} 0 1 = cc in omega arith)
 
 is-target : (x : Answered) → judged x ≡ done target → x ≡ Target
 is-target (Lost rule) e = absurd (let z : _≡_ {A = ℕ} 0 1 = cc in omega arith)
@@ -135,6 +153,13 @@ Reporting file table game =
     (p a : ℕ) (rest : List ℕ) → inForm game (record { state = p; stack = a ∷ rest }) ≡ true → suc (length rest) ≤ maxStack → (b : ℕ)
     → bound game (entriesOf table) p (a ∷ rest) ≡ some b → Reports game (entriesOf table) p a rest b (judging file table (p ∷ a ∷ rest))
 
+-- the same of lost positions
+abbrev ReportingLost : List ℕ → List ℕ → PushdownGame → Type 0
+ReportingLost file table game =
+    (p a : ℕ) (rest : List ℕ) → inForm game (record { state = p; stack = a ∷ rest }) ≡ true → suc (length rest) ≤ maxStack
+    → LostPosition game (record { state = p; stack = a ∷ rest })
+    → ReportsLost game (entriesOf table) p a rest (judging file table (p ∷ a ∷ rest))
+
 -- The hypotheses are what `solve` and `judge` promise, word for word: `answer`, `table` and `work` are what a call of `solve` over a
 -- file with areas of t and w words returned and left, and `judge` is what calls of `judge` over that file and that table return.
 pub demands : (file : List ℕ) (t w : ℕ) (answer : Solution) (table work : List ℕ) → called answer table work ≡ solveCall file t w
@@ -146,12 +171,17 @@ demands file t w answer table work promise judge judges entries rounds e =
     let two = demand-two file t w (solvedAs entries rounds table) (s .0) in
     let three = demand-three file t w (solvedAs entries rounds table) (s .0) in
     let reports : Reporting file table (two .game) = subst (Reporting file table) (done-same (sym (three .read) ∙ two .read)) (three .reports) in
+    let contest = stays-lost file t w (solvedAs entries rounds table) (s .0) in
+    let losts : ReportingLost file table (two .game) =
+    subst (ReportingLost file table) (done-same (sym (contest .read) ∙ two .read)) (contest .reports)
+    in
     record {
       game = two .game;
       read = two .read;
       cleared = s .1;
       judges = two;
       plays = three;
+      contests = contest;
       verdicts =
           λ pos f short.
           let v = two .verdicts pos f short in
@@ -168,4 +198,11 @@ demands file t w answer table work promise judge judges entries rounds e =
           λ p a rest f short b h l o.
           let r = reports p a rest f short b h .eloises l o in
           (r .0, r .1, r .2, is-eloise (judge (p ∷ a ∷ rest)) (r .0) b (judges (p ∷ a ∷ rest) ∙ r .3));
+      lostAbelards =
+          λ p a rest f short l o.
+          let r = losts p a rest f short l .abelards o in
+          (r .0, is-lost (judge (p ∷ a ∷ rest)) (suc (r .0 .rule .number)) (judges (p ∷ a ∷ rest) ∙ r .1));
+      lostEloises =
+          λ p a rest f short l o.
+          is-lost (judge (p ∷ a ∷ rest)) 0 (judges (p ∷ a ∷ rest) ∙ losts p a rest f short l .eloises o);
     }

@@ -1,5 +1,6 @@
 // What was tried of random games, as counts. A check that fails prints one line with the game's number, the control state and
 // the stack's number.
+use crate::contests::Contested;
 use crate::plays::Played;
 use crate::told::Told;
 use output::Line;
@@ -23,6 +24,14 @@ pub struct Counts {
     pub plays: usize,
     pub moves: usize,
     pub long: usize,
+    // Lost positions whose rule field was compared, Abelard's and Éloise's.
+    pub named: usize,
+    pub unnamed: usize,
+    // Contests from lost positions, their moves, Abelard's among them, and the letters of the highest stack.
+    pub contests: usize,
+    pub steps: usize,
+    pub turns: usize,
+    pub letters: usize,
     pub failed: usize,
 }
 
@@ -41,6 +50,12 @@ impl Counts {
             plays: 0,
             moves: 0,
             long: 0,
+            named: 0,
+            unnamed: 0,
+            contests: 0,
+            steps: 0,
+            turns: 0,
+            letters: 0,
             failed: 0,
         }
     }
@@ -112,6 +127,27 @@ impl Counts {
         self
     }
 
+    // The rule field of a lost position, Abelard's or not, was compared.
+    pub fn reported(mut self, abelards: bool) -> Counts {
+        if abelards {
+            self.named = up(self.named);
+            return self;
+        }
+        self.unnamed = up(self.unnamed);
+        self
+    }
+
+    // A contest.
+    pub fn contested(mut self, c: Contested) -> Counts {
+        self.contests = up(self.contests);
+        self.steps = beyond(self.steps, c.moves);
+        self.turns = beyond(self.turns, c.turns);
+        if self.letters < c.letters {
+            self.letters = c.letters;
+        }
+        self
+    }
+
     // A check at a position.
     pub fn check(mut self, holds: bool, number: usize, state: usize, stack: usize) -> Counts {
         if holds {
@@ -133,6 +169,8 @@ impl Counts {
         self.print_games();
         self.print_positions();
         self.print_plays();
+        self.print_contests();
+        self.print_failed();
     }
 
     fn print_games(self) {
@@ -179,6 +217,29 @@ impl Counts {
             .word(b", given up as too long ")
             .number(self.long as u64)
             .print();
+    }
+
+    fn print_contests(self) {
+        Line::new()
+            .word(b"lost: abelard ")
+            .number(self.named as u64)
+            .word(b" with the lowest rule that stays lost, eloise ")
+            .number(self.unnamed as u64)
+            .word(b" with none")
+            .print();
+        Line::new()
+            .word(b"contests: ")
+            .number(self.contests as u64)
+            .word(b", moves ")
+            .number(self.steps as u64)
+            .word(b", by Abelard ")
+            .number(self.turns as u64)
+            .word(b", letters of the highest stack ")
+            .number(self.letters as u64)
+            .print();
+    }
+
+    fn print_failed(self) {
         Line::new()
             .word(b"random games: ")
             .number(self.failed as u64)

@@ -1,10 +1,12 @@
 // The trial of solver and judge: sample D with 1 to 41 letters above the bottom, the edges of document 01, and random small
-// games from a fixed seed against a plain solver written apart from this one, which tries moves up to a depth. It prints what
-// was tried, how often, and how many checks failed, with a line for each that did.
+// games from a fixed seed against a plain solver written apart from this one, which tries moves up to a depth. From positions that are
+// won Éloise plays as advised, from those that are lost Abelard. It prints what was tried, how often, and how many checks failed, with
+// a line for each that did.
 //
 // It leaves out what the contracts say for all inputs: these are cases. It leaves out the reader's own cases, which are those
 // of `game_cases`.
 mod cases;
+mod contests;
 mod counts;
 mod edges;
 mod games;

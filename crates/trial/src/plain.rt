@@ -93,6 +93,11 @@ fn operand(file: &[u8], at: usize, k: usize) -> usize {
     wide(byte_at(file, beyond(at, k)))
 }
 
+// Operand k of rule i.
+pub fn operand_of(file: &[u8], g: Shape, i: usize, k: usize) -> usize {
+    operand(file, rule_at(g, i), k)
+}
+
 // The control state that rule i leads to.
 pub fn state_after(file: &[u8], g: Shape, i: usize) -> usize {
     operand(file, rule_at(g, i), 2)
@@ -129,7 +134,7 @@ pub fn is_target(file: &[u8], g: Shape, state: usize, stack: usize) -> bool {
 }
 
 // The letters above the bottom in the other order.
-fn turned(stack: usize) -> usize {
+pub fn turned(stack: usize) -> usize {
     let mut rest = stack;
     let mut out = 0;
     while 0 < rest {
@@ -140,7 +145,7 @@ fn turned(stack: usize) -> usize {
 }
 
 // The states that have a transition on the letter all of whose set accepts the rest.
-fn states_on(file: &[u8], g: Shape, letter: usize, accepting: usize) -> usize {
+pub fn states_on(file: &[u8], g: Shape, letter: usize, accepting: usize) -> usize {
     let mut out = 0;
     let mut i = 0;
     while i < g.targetcount {

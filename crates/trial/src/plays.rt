@@ -14,8 +14,10 @@ use judge::judge;
 use script::byte_of;
 use script::front;
 use script::put;
+use script::up;
 
-// A position with what the judge says of it. The rule is Éloise's, and the bound is Told::NONE where there is none.
+// A position with what the judge says of it. The rule is Éloise's; of a lost position it is its rule field, the number of Abelard's
+// plus 1, or 0. The bound is Told::NONE where there is none.
 pub struct Place {
     pub state: usize,
     pub stack: usize,
@@ -31,11 +33,13 @@ pub struct Played {
     pub failed: bool,
 }
 
-// Of the positions that a head's rules lead to: the least bound, the largest one, and a rule that leads to that.
+// Of the positions that a head's rules lead to: the least bound, the largest one, and a rule that leads to that; and the number plus 1
+// of the lowest rule that leads to a lost one, or 0.
 pub struct Spread {
     pub least: u64,
     pub largest: u64,
     pub worst: usize,
+    pub losing: usize,
 }
 
 // A play of more moves is given up.
@@ -60,7 +64,7 @@ pub fn place_of(
     }
 }
 
-fn number_of(x: u64) -> usize {
+pub fn number_of(x: u64) -> usize {
     x as usize
 }
 
@@ -162,6 +166,7 @@ pub fn spread_of(
         least: Told::NONE,
         largest: 0,
         worst: 0,
+        losing: 0,
     };
     let mut i = 0;
     while i < g.rulecount {
@@ -190,16 +195,30 @@ fn with_rule(
 
 fn with_bound(s: Spread, i: usize, bound: u64) -> Spread {
     let least = if bound < s.least { bound } else { s.least };
+    let losing = losing_with(s.losing, i, bound);
     if bound < s.largest {
         return Spread {
             least,
             largest: s.largest,
             worst: s.worst,
+            losing,
         };
     }
     Spread {
         least,
         largest: bound,
         worst: i,
+        losing,
     }
+}
+
+// Rules come in their order, so the first that leads to a lost position stays.
+fn losing_with(losing: usize, i: usize, bound: u64) -> usize {
+    if bound != Told::NONE {
+        return losing;
+    }
+    if losing == 0 {
+        return up(i);
+    }
+    losing
 }

@@ -81,7 +81,9 @@ fn sample_b(
         6 6 refused 11 1
     ";
     let judging = b"
-        1 1 1 lost 0 0
+        1 1 1 lost 6 0
+        1 1 2 lost 6 0
+        1 1 255 lost 6 0
         0 1 1 eloise 2 1
     ";
     every_case(t, b, solving, judging, position, table, work, other)

@@ -3,10 +3,13 @@
 //   - it is judged target exactly where the plain solver finds it in the target;
 //   - it is judged won wherever the plain solver finds a win within the depth;
 //   - the plain solver finds a win wherever the bound is within the depth;
-//   - where it is judged lost, all rules of Éloise's head lead to positions judged lost, and some rule of Abelard's does;
+//   - where it is judged lost, all rules of Éloise's head lead to positions judged lost, and no rule is reported; of Abelard's the rule
+//     that is reported is the lowest that leads to a position judged lost, and there is one;
+//   - where it is judged lost, it stays lost while Abelard plays the rules that are reported, and Éloise any;
 //   - where it is judged won, it is played to the target within the bound.
 use crate::cases::WHOLE;
 use crate::cases::words_of;
+use crate::contests::contest;
 use crate::counts::Counts;
 use crate::games::Shape;
 use crate::games::drawn;
@@ -170,12 +173,53 @@ fn tried(
     place: Place,
 ) -> Counts {
     if place.kind == Told::LOST {
-        let kept = is_kept(file, g, table, position, place);
-        return c.check(kept, number, place.state, place.stack);
+        return lost_tried(c, number, file, g, position, table, place);
     }
     let played = play(file, g, table, position, place);
     c.played(played)
         .check(!played.failed, number, place.state, place.stack)
+}
+
+// The rule that is reported of a lost position, and a contest from it.
+fn lost_tried(
+    c: Counts,
+    number: usize,
+    file: &[u8],
+    g: Shape,
+    position: &mut [u8],
+    table: &[u32],
+    place: Place,
+) -> Counts {
+    let c = rule_tried(c, number, file, g, position, table, place);
+    contest_tried(c, number, file, g, position, table, place)
+}
+
+fn rule_tried(
+    c: Counts,
+    number: usize,
+    file: &[u8],
+    g: Shape,
+    position: &mut [u8],
+    table: &[u32],
+    place: Place,
+) -> Counts {
+    let kept = is_kept(file, g, table, position, place);
+    c.reported(has(g.abelard, place.state))
+        .check(kept, number, place.state, place.stack)
+}
+
+fn contest_tried(
+    c: Counts,
+    number: usize,
+    file: &[u8],
+    g: Shape,
+    position: &mut [u8],
+    table: &[u32],
+    place: Place,
+) -> Counts {
+    let went = contest(number, file, g, table, position, place);
+    c.contested(went)
+        .check(!went.failed, number, place.state, place.stack)
 }
 
 // The verdict agrees with what the plain solver found.
@@ -203,11 +247,23 @@ fn owner_kind(g: Shape, state: usize) -> usize {
     Told::ELOISE
 }
 
-// Abelard can keep a position lost: some rule of his head leads to one judged lost, or every rule of Éloise's does.
+// Abelard can keep a position lost: the lowest rule of his head that leads to one judged lost is reported, or every rule of Éloise's
+// leads to one, and none is reported.
 fn is_kept(file: &[u8], g: Shape, table: &[u32], position: &mut [u8], place: Place) -> bool {
     let s = spread_of(file, g, table, position, place);
     if has(g.abelard, place.state) {
-        return s.largest == Told::NONE;
+        return is_named(s.losing, place.rule);
+    }
+    if place.rule != 0 {
+        return false;
     }
     s.least == Told::NONE
+}
+
+// There is a losing rule, and it is the one reported.
+fn is_named(losing: usize, field: usize) -> bool {
+    if losing == 0 {
+        return false;
+    }
+    losing == field
 }

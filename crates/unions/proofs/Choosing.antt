@@ -16,7 +16,7 @@ use Rattle.game.specs.ListLaws.{test, clash, not-true, both, conj, either, left
 use Rattle.game.specs.Game.{PushdownGame}
 use Rattle.table.specs.Table.{Entry}
 use Rattle.family.specs.Family.{holds}
-use Rattle.family.specs.DigitLaws.{has-and, has-or, has-less}
+use Rattle.game.specs.DigitLaws.{has-and, has-or, has-less}
 use Rattle.family.specs.Masks.{Raising}
 use Rattle.unions.specs.Expand.{expand}
 use Rattle.unions.specs.ExpandLaws.{same-test}

@@ -17,7 +17,7 @@ use Rattle.game.specs.Stored.{ruleAt}
 use Rattle.table.specs.Table.{Entry}
 use Rattle.judge.specs.Target.{zero-or-more}
 use Rattle.family.specs.Family.{holds, Put, Copied, TakenIn}
-use Rattle.family.specs.DigitLaws.{has-less}
+use Rattle.game.specs.DigitLaws.{has-less}
 use Rattle.rounds.specs.Rounds.{setsOf, ends}
 use Rattle.rounds.specs.EndsLaws.{setsOf-in}
 use Rattle.unions.specs.Expand.{expand}

@@ -1,7 +1,7 @@
 // The verdict program: reads a game and then positions from standard input, each as a piece, and prints one verdict a line.
-// A piece is two length bytes, lower first, and then so many bytes. The lines: `lost`, `target`, `eloise` with rule and
-// bound, `abelard` with bound, or the refusal line. A game that is refused, or not solved, prints its one line and ends the
-// run; a refused position does not.
+// A piece is two length bytes, lower first, and then so many bytes. The lines: `lost`, with the number of Abelard's rule that leads
+// to a lost position if there is one, `target`, `eloise` with rule and bound, `abelard` with bound, or the refusal line. A game that
+// is refused, or not solved, prints its one line and ends the run; a refused position does not.
 //
 // A piece cut short is taken as the bytes that came, and without both length bytes the run ends. A read that fails counts
 // as the end of the input. It leaves out playing.
@@ -83,12 +83,20 @@ fn number_of(low: u8, high: u8) -> usize {
 
 fn print_verdict(verdict: Verdict) {
     match verdict {
-        Verdict::Lost { rule } => Line::new().word(b"lost").print(),
+        Verdict::Lost { rule } => lost(rule).print(),
         Verdict::Target => Line::new().word(b"target").print(),
         Verdict::Eloise { rule, bound } => print_eloise(rule, bound),
         Verdict::Abelard { bound } => Line::new().word(b"abelard ").number(bound).print(),
         Verdict::Refused { question, place } => refusal(question, place).print(),
     }
+}
+
+// The rule of Abelard's that leads to a lost position, by its number, if there is one.
+fn lost(rule: u32) -> Line {
+    if rule == 0 {
+        return Line::new().word(b"lost");
+    }
+    Line::new().word(b"lost ").number((rule - 1) as u64)
 }
 
 fn print_eloise(rule: u32, bound: u64) {

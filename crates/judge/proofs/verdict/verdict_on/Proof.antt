@@ -1,6 +1,6 @@
-use Rattle.judge.proofs.Steps.{field-small}
-use Rattle.judge.proofs.Bounds.{tamed, bound-coded, bound-low, rule-least, strict, is-lost, is-target, is-abelard, is-eloise}
 use borrow.Author.Needs.{needs}
+use Rattle.judge.proofs.Steps.{field-small}
+use Rattle.judge.proofs.Bounds.{numbers, tamed, found, rule-least, strict, is-lost, is-target, is-abelard, is-eloise}
 use Rattle.judge.proofs.verdict.verdict_on.Statement.{statement}
 use Rattle.judge.proofs.verdict.verdict_on.Tie as tie
 
@@ -21,101 +21,63 @@ worths-requires c κs = search needs
 
 head-worth-requires : tie.Need-head-worth-requires
 head-worth-requires c κs =
-    let at-worths = c .before in
-    let start = at-worths .before .before .before .before .before in
-    let pre = start .pre in
-    let low = tamed (start .args .sizes) (pre .1) _ (pre .4) _ (pre .0) (start .args .stack .now) (pre .2) (pre .3) _ (at-worths .worths .ensures) in
-    (pre .1, pre .4, pre .5, low)
+    let asked = c .before .before .before .before .before .before .before .pre in
+    let lent = asked .lent in
+    (lent .safe .states, lent .young, lent .sorted, tamed asked (c .before .worths .ensures))
+
+lost-field-requires : tie.Need-lost-field-requires
+lost-field-requires c κs = let lent = c .before .before .before .before .before .before .before .before .before .before .pre .lent in (lent .safe, lent .sorted)
 
 returns : tie.Need-returns
 returns c =
-    λ g e.
-    let at-head = c .before in
+    λ g h.
+    let at-head = c .before .before .before in
     let at-worths = at-head .before .before in
-    let start = at-worths .before .before .before .before .before in
-    let sizes = start .args .sizes in
-    let stack = start .args .stack .now in
-    let pre = start .pre in
+    let asked = at-worths .before .before .before .before .before .before .pre in
     let below = at-worths .worths .ensures in
-    let code = bound-coded sizes (pre .1) _ (pre .4) _ (pre .0) stack (pre .2) (pre .3) _ below _ (at-head .head-worth .ensures) in
-    let low = bound-low sizes (pre .1) _ (pre .4) _ (pre .0) stack (pre .2) (pre .3) _ below in
-    is-lost g sizes e _ _ _ (pre .2) _ code low
-    (c .if1 .taken)
+    is-lost h (found asked below (at-head .head-worth .ensures)) (c .before .before .if1 .taken) (c .lost-field .ensures g h (numbers asked below))
 
 returns-2 : tie.Need-returns-2
 returns-2 c =
-    λ g e.
+    λ g h.
     let at-head = c .before .before in
     let at-worths = at-head .before .before in
-    let start = at-worths .before .before .before .before .before in
-    let sizes = start .args .sizes in
-    let stack = start .args .stack .now in
-    let pre = start .pre in
-    let below = at-worths .worths .ensures in
-    let code = bound-coded sizes (pre .1) _ (pre .4) _ (pre .0) stack (pre .2) (pre .3) _ below _ (at-head .head-worth .ensures) in
-    let low = bound-low sizes (pre .1) _ (pre .4) _ (pre .0) stack (pre .2) (pre .3) _ below in
-    is-target g sizes e _ _ _ (pre .2) _ code low
-    (c .before .if1 .left)
-    (c .if2 .taken)
+    let asked = at-worths .before .before .before .before .before .before .pre in
+    is-target h (found asked (at-worths .worths .ensures) (at-head .head-worth .ensures)) (c .before .if1 .left) (c .if2 .taken)
 
 has-state-requires : tie.Need-has-state-requires
 has-state-requires c κs = search needs
 
 returns-3 : tie.Need-returns-3
 returns-3 c =
-    λ g e.
+    λ g h.
     let at-head = c .before .before .before .before in
     let at-worths = at-head .before .before in
-    let start = at-worths .before .before .before .before .before in
-    let sizes = start .args .sizes in
-    let stack = start .args .stack .now in
-    let pre = start .pre in
-    let below = at-worths .worths .ensures in
-    let code = bound-coded sizes (pre .1) _ (pre .4) _ (pre .0) stack (pre .2) (pre .3) _ below _ (at-head .head-worth .ensures) in
-    let low = bound-low sizes (pre .1) _ (pre .4) _ (pre .0) stack (pre .2) (pre .3) _ below in
-    is-abelard g sizes e _ _ _ (pre .2) _ code low
-    (c .before .before .before .if1 .left)
-    (c .before .before .if2 .left)
-    _
-    (c .before .has-state .ensures)
-    (c .if3 .taken)
+    let asked = at-worths .before .before .before .before .before .before .pre in
+    let bound = found asked (at-worths .worths .ensures) (at-head .head-worth .ensures) in
+    is-abelard h bound (c .before .before .before .if1 .left) (c .before .before .if2 .left) (c .before .has-state .ensures) (c .if3 .taken)
 
 least-rule-requires : tie.Need-least-rule-requires
 least-rule-requires c κs =
-    let at-worths = c .before .before .before .before .before .before .before in
-    let start = at-worths .before .before .before .before .before in
-    let pre = start .pre in
-    let low = tamed (start .args .sizes) (pre .1) _ (pre .4) _ (pre .0) (start .args .stack .now) (pre .2) (pre .3) _ (at-worths .worths .ensures) in
-    (pre .1, pre .4, pre .5, low)
+    let asked = c .before .before .before .before .before .before .before .before .before .before .before .before .before .pre in
+    let lent = asked .lent in
+    (lent .safe .states, lent .young, lent .sorted, tamed asked (c .before .before .before .before .before .before .before .worths .ensures))
 
 rule-number-requires : tie.Need-rule-number-requires
 rule-number-requires c κs = search needs
 
 returns-4 : tie.Need-returns-4
 returns-4 c =
-    λ g e.
+    λ g h.
     let at-head = c .before .before .before .before .before .before .before in
     let at-worths = at-head .before .before in
-    let start = at-worths .before .before .before .before .before in
-    let sizes = start .args .sizes in
-    let stack = start .args .stack .now in
-    let pre = start .pre in
+    let asked = at-worths .before .before .before .before .before .before .pre in
     let below = at-worths .worths .ensures in
-    let code = bound-coded sizes (pre .1) _ (pre .4) _ (pre .0) stack (pre .2) (pre .3) _ below _ (at-head .head-worth .ensures) in
-    let low = bound-low sizes (pre .1) _ (pre .4) _ (pre .0) stack (pre .2) (pre .3) _ below in
+    let bound = found asked below (at-head .head-worth .ensures) in
     let bounded = c .before .before .before .before .before .before .if1 .left in
-    let known = at-worths .before .before .before .before .shared-slice-known .given in
-    let small = strict g sizes e _ (start .args .state) stack (pre .2) _ code low bounded in
-    is-eloise g sizes e _ _ _ (pre .2) _ code low
-    bounded
-    (c .before .before .before .before .before .if2 .left)
-    _
-    (c .before .before .before .before .has-state .ensures)
-    (c .before .before .before .if3 .left)
-    _
-    (rule-least sizes (pre .1) _ (pre .4) _ (pre .0) stack (pre .2) (pre .3) _ below (λ k. known k .fits) _ small _ (c .before .least-rule .ensures))
-    _
-    (c .rule-number .ensures)
+    let known = at-worths .before .before .before .before .shared-slice-known2 .given in
+    let least = rule-least asked below (λ k. known k .fits) (strict h bound bounded) (c .before .least-rule .ensures) in
+    is-eloise h bound bounded (c .before .before .before .before .before .if2 .left) (c .before .before .before .before .has-state .ensures) (c .before .before .before .if3 .left) least (c .rule-number .ensures)
     (field-small _ (λ k. known k .fits))
 
 pub verdict-on-spec : {M : Type 1} → statement M
@@ -128,6 +90,7 @@ verdict-on-spec =
     part-worths-end
     worths-requires
     head-worth-requires
+    lost-field-requires
     returns
     returns-2
     has-state-requires
