@@ -14,7 +14,7 @@ use solver::solve;
 
 // A position (state, [1,0]), how many rules of its head lead to won and to lost positions, which is the worst for Éloise, and
 // its verdict.
-#[derive(Drop)]
+#[derive(Clone, Copy)]
 pub struct Case {
     pub sample: Sample,
     pub state: u8,

@@ -4,7 +4,7 @@
 use output::Line;
 
 // The upper and the lower 32 bits.
-#[derive(Drop)]
+#[derive(Clone, Copy)]
 pub struct Digest {
     pub high: u64,
     pub low: u64,

@@ -4,6 +4,8 @@
 //
 // It leaves out what the contracts say for all inputs: these are cases. It leaves out files that are damaged in another way, which
 // are those of `game_cases`, and random games, which are those of `trial`.
+#![tactic(auto)]
+
 mod branches;
 mod cuts;
 mod digest;

@@ -13,7 +13,7 @@ use session::Session;
 use solver::solve;
 
 // Of the plays of one game: positions judged won and lost, moves, Abelard's among them, and the sum of the first bounds.
-#[derive(Drop)]
+#[derive(Clone, Copy)]
 pub struct Counts {
     pub tally: Tally,
     pub won: usize,
@@ -24,7 +24,7 @@ pub struct Counts {
 }
 
 // How a play went: its moves, Abelard's among them, and whether all was right.
-#[derive(Drop)]
+#[derive(Clone, Copy)]
 pub struct Played {
     pub moves: usize,
     pub turns: usize,
@@ -32,7 +32,7 @@ pub struct Played {
 }
 
 // One move: whether it was right, the session after it, and what the judge says of that.
-#[derive(Drop)]
+#[derive(Clone, Copy)]
 pub struct Step {
     pub right: bool,
     pub after: Session,

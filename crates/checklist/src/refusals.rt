@@ -7,7 +7,7 @@ use output::Line;
 use solver::Solution;
 
 // The number of the question that was answered no, and its place; 0 and 0 where nothing was refused.
-#[derive(Drop)]
+#[derive(Clone, Copy)]
 pub struct Refusal {
     pub question: u8,
     pub place: usize,

@@ -5,7 +5,7 @@
 use output::Line;
 use script::{put_bytes, put_d};
 
-#[derive(Drop)]
+#[derive(Clone, Copy)]
 pub enum Sample {
     A,
     B,

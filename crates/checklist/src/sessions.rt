@@ -8,7 +8,7 @@ use session::{Session, play_move};
 
 // What the judge says of a position. The rule is Éloise's; of a lost position it is the number of Abelard's plus 1, or 0. The bound is
 // Judged::NONE where there is none.
-#[derive(Drop)]
+#[derive(Clone, Copy)]
 pub struct Judged {
     pub kind: usize,
     pub rule: u32,
@@ -16,7 +16,7 @@ pub struct Judged {
 }
 
 // Whether a rule was played, and the session after it.
-#[derive(Drop)]
+#[derive(Clone, Copy)]
 pub struct Moved {
     pub done: bool,
     pub after: Session,
@@ -24,7 +24,7 @@ pub struct Moved {
 
 // Of the positions that the rules of a head lead to: how many are won, how many are lost, the largest bound, and a rule that
 // leads to a position with that.
-#[derive(Drop)]
+#[derive(Clone, Copy)]
 pub struct Spread {
     pub won: usize,
     pub lost: usize,

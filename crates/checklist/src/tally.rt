@@ -2,7 +2,7 @@
 use output::Line;
 use script::{beyond, up};
 
-#[derive(Drop)]
+#[derive(Clone, Copy)]
 pub struct Tally {
     pub tried: usize,
     pub failed: usize,

@@ -11,7 +11,7 @@ use script::{copy, fill, front, is_same, is_zero};
 use solver::{Solution, solve};
 
 // What solving answered: entries and rounds, or the refusal; the others are 0. And whether the work area was zero afterwards.
-#[derive(Drop)]
+#[derive(Clone, Copy)]
 pub struct Solved {
     pub entries: usize,
     pub rounds: u32,

@@ -3,6 +3,8 @@
 //
 // It has the memo of what was enumerated before, the places of heads in the old round, the marks of entries of the last round, and lists of
 // the ends of rules. It leaves out which jobs a round has and which rules are listed, which is what `walk` finds.
+#![tactic(auto)]
+
 mod fresh;
 mod lists;
 mod memo;

@@ -27,7 +27,7 @@ use table::EntryWords;
 
 // What an enumeration is for: a head, the entries' first word and rule field, the rules' end, the old round's size, and a rule from
 // which on no rule of the job can have an entry of the last round.
-#[derive(Drop)]
+#[derive(Clone, Copy)]
 pub struct Job {
     pub state: u8,
     pub letter: u8,

@@ -1,6 +1,8 @@
 // Families of sets of states, as bits: what many unions at once are formed with.
 //
 // It leaves out where families come from and what they are for, which is the solver's.
+#![tactic(auto)]
+
 mod area;
 mod mask_table;
 mod raising;

@@ -2,7 +2,7 @@
 ghost use Rattle.std.specs.Prelude.{◌≡◌, ◌<◌, ◌+◌, length, get_or};
 ghost use Rattle.game.specs.Command.{whole, set_of, decoded, command_at};
 
-#[derive(Drop)]
+#[derive(Clone, Copy)]
 pub enum Command {
     Sizes {
         control: u8,
@@ -32,7 +32,7 @@ pub enum Command {
 }
 
 // A command with the offset after it; a known command that the file's end cuts; an unknown command byte.
-#[derive(Drop)]
+#[derive(Clone, Copy)]
 pub enum Found {
     Next(Command, usize),
     Missing,

@@ -12,7 +12,7 @@ use crate::command::Command;
 use crate::filter::{mark, rule_word, slot_of};
 
 // A game by value. Rules and target transitions are flat, one after the other in file order; what is not used is 0.
-#[derive(Drop)]
+#[derive(Clone, Copy)]
 pub struct Game {
     // P, S and L of document 01.
     pub control: u8,
@@ -30,7 +30,7 @@ pub struct Game {
 }
 
 // A game but for its rules and target transitions: what those above hand on beside the flat rules.
-#[derive(Drop)]
+#[derive(Clone, Copy)]
 pub struct Sizes {
     pub control: u8,
     pub states: u8,
@@ -42,14 +42,14 @@ pub struct Sizes {
 }
 
 // Done, or the number of the question that was answered no, and its place.
-#[derive(Drop)]
+#[derive(Clone, Copy)]
 pub enum Answer {
     Done,
     Refused { question: u8, place: usize },
 }
 
 // The limits of document 01.
-#[derive(Drop)]
+#[derive(Clone, Copy)]
 pub struct Limits {
     pub file: usize,
     pub control: u8,
@@ -63,7 +63,7 @@ pub struct Limits {
 }
 
 // What reading a file answers, with the game: all zero where the file is refused.
-#[derive(Drop)]
+#[derive(Clone, Copy)]
 pub struct Reading {
     pub answer: Answer,
     pub game: Game,

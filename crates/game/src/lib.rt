@@ -2,6 +2,8 @@
 // 02, which is put right after 2), and the form of a position (question 14).
 //
 // It leaves out tables, judging, moving and solving, which stand in crates above this one.
+#![tactic(auto)]
+
 mod command;
 mod filter;
 mod game;

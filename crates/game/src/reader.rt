@@ -6,7 +6,7 @@ ghost use Rattle.game.specs.Command.{command_at};
 
 use crate::command::{Found, command_at};
 
-#[derive(Drop)]
+#[derive(Clone, Copy)]
 pub struct CommandReader<'a> {
     file: &'a [u8],
     next: usize,

@@ -3,6 +3,8 @@
 // many were tried and how many failed. `words.rt` lists the words of a script.
 //
 // It leaves out what the contracts say for all inputs: these are cases.
+#![tactic(auto)]
+
 mod accepted;
 mod build;
 mod command;

@@ -4,7 +4,7 @@ use game::Answer;
 use libc::STDOUT_FILENO;
 use script::{up, wide};
 
-#[derive(Drop)]
+#[derive(Clone, Copy)]
 pub struct Tally {
     pub tried: usize,
     pub failed: usize,

@@ -39,7 +39,7 @@ use script::{
 };
 
 // Where the script is, how long the file is, and the tally.
-#[derive(Drop)]
+#[derive(Clone, Copy)]
 pub struct State {
     pub at: usize,
     pub length: usize,

@@ -3,6 +3,8 @@
 //
 // It asks nothing of where the table comes from: any words of the right form are judged by the bound's definition.
 // It leaves out solving.
+#![tactic(auto)]
+
 mod judging;
 mod losing;
 mod verdict;

@@ -26,7 +26,7 @@ use table::{EntryWords, start_of};
 
 // What judging answers. Unused fields are 0. `Lost` has a rule field: for a position of Abelard's 1 + the number of his lowest rule that
 // leads to a lost position; 0 for a position of Éloise's, and where no rule does, as over some tables from elsewhere.
-#[derive(Drop)]
+#[derive(Clone, Copy)]
 pub enum Verdict {
     Lost { rule: u32 },
     Target,

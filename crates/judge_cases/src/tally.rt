@@ -4,7 +4,7 @@ use crate::told::Told;
 use libc::STDOUT_FILENO;
 use script::up;
 
-#[derive(Drop)]
+#[derive(Clone, Copy)]
 pub struct Tally {
     pub tried: usize,
     pub failed: usize,

@@ -3,7 +3,7 @@ use judge::Verdict;
 use libc::STDOUT_FILENO;
 
 // The kind, and two numbers whose meaning it gives.
-#[derive(Drop)]
+#[derive(Clone, Copy)]
 pub struct Told {
     pub kind: u8,
     pub first: u64,

@@ -34,7 +34,7 @@ use script::{
 };
 
 // Where the script is, how long file, table and position are, the table's offset of the next entry, and the tally.
-#[derive(Drop)]
+#[derive(Clone, Copy)]
 pub struct State {
     pub at: usize,
     pub file: usize,
@@ -45,7 +45,7 @@ pub struct State {
 }
 
 // Where a list of bytes ends in the script, and in the buffer.
-#[derive(Drop)]
+#[derive(Clone, Copy)]
 pub struct Ends {
     pub at: usize,
     pub length: usize,

@@ -2,6 +2,8 @@
 // state, letter, set, birthdate, and rule number, or "-" where the entry has none. A refusal prints one line.
 //
 // It leaves out positions: those are the business of the program `verdicts`.
+#![tactic(auto)]
+
 use game::Game;
 use libc::STDIN_FILENO;
 use output::{Line, front, refusal};

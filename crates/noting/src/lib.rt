@@ -3,6 +3,8 @@
 // It has round 0, whose entries are the target's; sets offered to a head, of which those that it neither has nor was given are noted; the
 // marks of heads and letters, and the rules that have something new to read; and the end of a round, at which the heads take what they were
 // given. It leaves out which sets are offered, which is what the rules and Abelard's heads of `saturation` find.
+#![tactic(auto)]
+
 mod closing;
 mod masks;
 mod offers;

@@ -2,10 +2,12 @@
 //
 // A line has room for 120 bytes, and what does not fit is left out: no line of the programs here is that long. It leaves
 // out what becomes of a write that fails, of which the caller hears nothing.
+#![tactic(auto)]
+
 use libc::STDOUT_FILENO;
 
 // What was gathered so far, and how many bytes that is.
-#[derive(Drop)]
+#[derive(Clone, Copy)]
 pub struct Line {
     pub bytes: [u8; Line::ROOM],
     pub size: usize,

@@ -20,7 +20,7 @@ abbrev pub version_major : ℕ
 version_major = 4
 
 abbrev pub version_minor : ℕ
-version_minor = 1
+version_minor = 0
 
 abbrev pub version : ℕ
 version = version_major * 65536 + version_minor

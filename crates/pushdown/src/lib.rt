@@ -3,6 +3,8 @@
 //
 // A result is 0, the number of the question that was answered no, or 100 where an area has the wrong length; the rest is
 // written to `out`. With 100 nothing is written.
+#![tactic(auto)]
+
 mod areas;
 
 ghost use Rattle.std.specs.Prelude.{◌≡◌};
@@ -16,7 +18,7 @@ use solver::{Solution, solve};
 
 pub const VERSION_MAJOR: u32 = 4;
 
-pub const VERSION_MINOR: u32 = 1;
+pub const VERSION_MINOR: u32 = 0;
 
 pub const WRONG_LENGTH: u32 = 100;
 

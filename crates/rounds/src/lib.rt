@@ -2,6 +2,8 @@
 // round uses: the lent areas cleared and copied, one entry added to a table, the next rule of a head, the highest state of a set.
 //
 // It leaves out how a round is taken, which is above it.
+#![tactic(auto)]
+
 mod adding;
 mod area;
 mod scan;

@@ -4,6 +4,8 @@
 // which give what is new, and of the heads, which take it by `noting`; rules and heads are passed over by marks of what has something new. It
 // leaves out the unions, the ends of runs and the table written at last, which are those of `unions`, round 0 and the marks, which are those
 // of `noting`, and the order of rounds and their end, which are the solver's.
+#![tactic(auto)]
+
 mod heads;
 mod linking;
 mod round;

@@ -14,7 +14,7 @@ use noting::{give, keep_more};
 use unions::{byte_of, lowest_set, more_of_rule};
 
 // How many entries are noted, and how many lines there are.
-#[derive(Drop)]
+#[derive(Clone, Copy)]
 pub struct Counts {
     pub entries: usize,
     pub lines: usize,

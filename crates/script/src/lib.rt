@@ -1,5 +1,7 @@
 // What test programs share: the words, numbers and bytes of the scripts that they read, files built in a buffer, and areas of
 // words.
+#![tactic(auto)]
+
 mod areas;
 mod build;
 mod text;

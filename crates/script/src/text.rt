@@ -1,7 +1,7 @@
 // The text of a script: where its words are, and the values after them.
 
 // Up to seven numbers after a word, 0 where there are fewer, and the offset after them.
-#[derive(Drop)]
+#[derive(Clone, Copy)]
 pub struct Numbers {
     pub a: usize,
     pub b: usize,
@@ -14,7 +14,7 @@ pub struct Numbers {
 }
 
 // A value, whether there is one, and the offset after it.
-#[derive(Drop)]
+#[derive(Clone, Copy)]
 pub struct Value {
     pub found: bool,
     pub value: usize,

@@ -23,7 +23,7 @@ ghost use Rattle.session.specs.Session.{
 use game::{Answer, Game, Sizes, is_rule_of};
 
 // What a move answers, and the session afterwards: state, stack (bottom letter first) and height.
-#[derive(Drop)]
+#[derive(Clone, Copy)]
 pub struct Played {
     pub answer: Answer,
     pub state: u8,

@@ -6,7 +6,7 @@ use crate::moving::play_move;
 use game::{Answer, Game};
 
 // A session: the control state, the stack with its bottom letter first, and how many of its cells are in use.
-#[derive(Drop)]
+#[derive(Clone, Copy)]
 pub struct Session {
     pub state: u8,
     pub stack: [u8; Game::MAX_STACK],

@@ -6,7 +6,7 @@ use game::Answer;
 use session::{Session, play, play_move};
 
 // What a move answered, and the session that it left.
-#[derive(Drop)]
+#[derive(Clone, Copy)]
 pub struct Left {
     pub answer: Answer,
     pub after: Session,

@@ -3,6 +3,8 @@
 // case that fails, and then how many were tried and how many failed.
 //
 // It leaves out what the contracts say for all inputs: these are cases.
+#![tactic(auto)]
+
 mod edges;
 mod forms;
 mod refusals;

@@ -5,7 +5,7 @@ use game::Answer;
 use libc::STDOUT_FILENO;
 use session::Session;
 
-#[derive(Drop)]
+#[derive(Clone, Copy)]
 pub struct Tally {
     pub tried: usize,
     pub failed: usize,

@@ -20,7 +20,7 @@ use unions::elements_of;
 use walk::take_wide;
 
 // Entries and rounds, or the number of the question that was answered no, and its place.
-#[derive(Drop)]
+#[derive(Clone, Copy)]
 pub enum Solution {
     Solved { entries: usize, rounds: u32 },
     Refused { question: u8, place: usize },

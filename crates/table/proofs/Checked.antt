@@ -1,16 +1,16 @@
 -- Question 13 of one entry, by the tests that the code makes.
-use Prim.Native.Nat.{ℕ, ◌*◌, ◌-◌, ◌/◌, ◌%◌, ◌^◌, ◌<◌, ◌≤◌}
+use Prim.Native.Nat.{ℕ, ◌+◌, ◌*◌, ◌-◌, ◌/◌, ◌%◌, ◌^◌, ◌<◌, ◌≤◌}
 use mathlib.Core.Path.{◌≡◌, refl, sym, ap, ◌∙◌}
 use mathlib.Core.Bool.{Bool, true, false, cond, not, ◌&&◌}
-use mathlib.Core.List.{List}
+use mathlib.Core.List.{List, ◌++◌}
 use native.Mathlib.Omega.{arith}
 use native.Mathlib.Nat.{div-eq_of_lt}
 use lib.ListN.{length, get_or}
 use lib.Dec.{ltb, eqb}
 use borrow.Author.Tests.{lt-ltb, le-ltb, eq-eqb}
 use Rattle.game.specs.Sets.{has, within}
-use Rattle.game.specs.Game.{PushdownGame, of_head, rules_of}
-use Rattle.game.specs.Stored.{rule_at}
+use Rattle.game.specs.Game.{PushdownGame, Rule, of_head, rules_of}
+use Rattle.game.specs.Stored.{rule_bytes, rule_at, sizes_of}
 use Rattle.game.specs.StoredLaws.{no_rule, rule-stored}
 use Rattle.game.specs.NumberLaws.{none-past, one_at}
 use Rattle.game.specs.Held.{Held}
@@ -18,14 +18,14 @@ use Rattle.game.specs.declared.game.Sizes.{Sizes}
 use Rattle.table.specs.Table.{Entry, is_eloise, is_rule_of, birthdate_in_form, rule_in_form, entry_in_form}
 
 -- a test on numbers that stand for others
-at_least : {x y u v : ℕ} → x ≡ u → y ≡ v → x ≤ y → ltb v u ≡ false
+pub at_least : {x y u v : ℕ} → x ≡ u → y ≡ v → x ≤ y → ltb v u ≡ false
 at_least {x} {y} {u} {v} p q h = le-ltb v u (omega arith)
 
-under : {x y u v : ℕ} → x ≡ u → y ≡ v → y < x → ltb v u ≡ true
+pub under : {x y u v : ℕ} → x ≡ u → y ≡ v → y < x → ltb v u ≡ true
 under {x} {y} {u} {v} p q h = lt-ltb v u (omega arith)
 
 -- no state from `high` up, as the reader's test has it
-within-high : (high set : ℕ) → within 0 high set ≡ eqb (set / 2 ^ high) 0
+pub within-high : (high set : ℕ) → within 0 high set ≡ eqb (set / 2 ^ high) 0
 unfolding within
 within-high high set = rw (eq-eqb (set % 1) 0 (omega arith))
 
@@ -39,16 +39,12 @@ within_low low set h = rw (div-eq_of_lt h) (second (eqb (set % 2 ^ low) 0))
     second false = refl
 
 -- an entry's form by its six parts
-pub by_parts : (g : PushdownGame) (e : Entry) {a b c d f k : Bool} → ltb e.state g.states ≡ a → ltb e.letter g.letters ≡ b
-    → not (eqb e.set 0) ≡ c → eqb (e.set / 2 ^ g.states) 0 ≡ d → birthdate_in_form g.control e.state e.set e.birthdate ≡ f
-    → rule_in_form g e.state e.letter e.birthdate e.rule ≡ k → (a && b && c && d && f && k) ≡ entry_in_form g e
+pub by_parts : (g : PushdownGame) (e : Entry) {a b c d f k : Bool} → ltb e.state g.states ≡ a → ltb e.letter g.letters ≡ b → not (eqb e.set 0) ≡ c → eqb (e.set / 2 ^ g.states) 0 ≡ d → birthdate_in_form g.control e.state e.set e.birthdate ≡ f → rule_in_form g e.state e.letter e.birthdate e.rule ≡ k → (a && b && c && d && f && k) ≡ entry_in_form g e
 unfolding entry_in_form
 by_parts g e p q r s t u = rw (p, q, r, s, t, u)
 
 -- the rule field's form by its parts: born in a round, a control state, Abelard's, not 0, named
-pub rule-by-parts : (g : PushdownGame) (state letter birthdate rule : ℕ) {a b c d : Bool} → eqb birthdate 0 ≡ a → ltb state g.control ≡ b
-    → has g.abelard state ≡ c → eqb rule 0 ≡ d
-    → cond (not a && (b && not c)) (not d && is_rule_of g state letter (rule - 1)) d ≡ rule_in_form g state letter birthdate rule
+pub rule-by-parts : (g : PushdownGame) (state letter birthdate rule : ℕ) {a b c d : Bool} → eqb birthdate 0 ≡ a → ltb state g.control ≡ b → has g.abelard state ≡ c → eqb rule 0 ≡ d → cond (not a && (b && not c)) (not d && is_rule_of g state letter (rule - 1)) d ≡ rule_in_form g state letter birthdate rule
 unfolding rule_in_form is_eloise
 rule-by-parts g state letter birthdate rule p q r s = rw (p, q, r, s)
 
@@ -71,49 +67,15 @@ module _ (g : PushdownGame) (sizes : Sizes) (rules : List ℕ) (rulecount : ℕ)
       ∙ ap (of_head p a) (rule-stored n g.rules h.slack no_rule m)
       ∙ sym (one_at (of_head p a) 0 n n g.rules h.ranged.numbers m (omega arith))
 
--- What the code's tests say of a game of which it holds sizes and rules. Some are of numbers and answers that stand for others.
-module _ (g : PushdownGame) (sizes : Sizes) (rules : List ℕ) (h : Held g sizes rules) where
-  states : sizes.states ≡ g.states
-  states = ap (λ (x : Sizes). x.states) h.sized
+-- the birthdate's test on numbers that stand for the entry's
+pub dated : (g : PushdownGame) (sizes : Sizes) (set : ℕ) → sizes ≡ sizes_of g → (x state : ℕ) → x ≡ state → (y birthdate : ℕ) → y ≡ birthdate → (found answer : Bool) → found ≡ birthdate_in_form sizes.control x set y → found ≡ answer → birthdate_in_form g.control state set birthdate ≡ answer
+dated g sizes set e x state p y birthdate q found answer f a =
+    sym (ap (λ (s : Sizes). birthdate_in_form s.control state set birthdate) e)
+    ∙ ap (λ (n : ℕ). birthdate_in_form sizes.control n set birthdate) (sym p)
+    ∙ ap (λ (n : ℕ). birthdate_in_form sizes.control x set n) (sym q)
+    ∙ sym f
+    ∙ a
 
-  letters : sizes.letters ≡ g.letters
-  letters = ap (λ (x : Sizes). x.letters) h.sized
-
-  control : sizes.control ≡ g.control
-  control = ap (λ (x : Sizes). x.control) h.sized
-
-  module _ {x q : ℕ} (e : x ≡ q) where
-    pub state-in : x < sizes.states → ltb q g.states ≡ true
-    state-in l = under states e l
-
-    pub state-out : sizes.states ≤ x → ltb q g.states ≡ false
-    state-out l = at_least states e l
-
-    pub letter-in : x < sizes.letters → ltb q g.letters ≡ true
-    letter-in l = under letters e l
-
-    pub letter-out : sizes.letters ≤ x → ltb q g.letters ≡ false
-    letter-out l = at_least letters e l
-
-    pub is_control : x < sizes.control → ltb q g.control ≡ true
-    is_control l = under control e l
-
-    pub is-further : sizes.control ≤ x → ltb q g.control ≡ false
-    is-further l = at_least control e l
-
-  -- Abelard's, no state of a set out of range, the birthdate in form
-  pub owned : (q : ℕ) {found answer : Bool} → found ≡ has sizes.abelard q → found ≡ answer → has g.abelard q ≡ answer
-  owned q f a = sym (ap (λ (x : Sizes). has x.abelard q) h.sized) ∙ sym f ∙ a
-
-  pub no_other : (set : ℕ) {found answer : Bool} → found ≡ within 0 sizes.states set → found ≡ answer → eqb (set / 2 ^ g.states) 0 ≡ answer
-  no_other set f a =
-      sym (ap (λ (n : ℕ). eqb (set / 2 ^ n) 0) states) ∙ sym (within-high sizes.states set) ∙ sym f ∙ a
-
-  pub dated : {x q : ℕ} → x ≡ q → (set : ℕ) {y birthdate : ℕ} → y ≡ birthdate → {found answer : Bool}
-      → found ≡ birthdate_in_form sizes.control x set y → found ≡ answer → birthdate_in_form g.control q set birthdate ≡ answer
-  dated p set r f a = rw (← p, ← r, ← control) (sym f ∙ a)
-
--- and the rule field's form of numbers that stand for others
-pub ruled : (g : PushdownGame) {x state y letter z birthdate : ℕ} → x ≡ state → y ≡ letter → z ≡ birthdate → (rule : ℕ) {found : Bool}
-    → found ≡ rule_in_form g x y z rule → rule_in_form g state letter birthdate rule ≡ found
-ruled g p q r rule f = rw (← p, ← q, ← r) (sym f)
+-- and the rule field's
+pub ruled : (g : PushdownGame) (x state : ℕ) → x ≡ state → (y letter : ℕ) → y ≡ letter → (z birthdate : ℕ) → z ≡ birthdate → (found : Bool) (rule : ℕ) → found ≡ rule_in_form g x y z rule → found ≡ rule_in_form g state letter birthdate rule
+ruled g x state p y letter q z birthdate r found rule f = rw (← p, ← q, ← r) f

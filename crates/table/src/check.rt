@@ -1,13 +1,11 @@
-// Question 13: the check of a whole table, or of a part of it, in one pass.
-ghost use Rattle.std.specs.Prelude.{◌≡◌, not, ◌&&◌, ℕ, ◌+◌, ◌-◌, ◌*◌, ◌/◌, ◌≤◌, length};
-ghost use Rattle.game.specs.Limits.{max_states, max_rules, max_entries};
+// Question 13: the check of a whole table, in one pass.
+ghost use Rattle.std.specs.Prelude.{◌≡◌, not, ◌&&◌, ℕ, ◌-◌, ◌*◌, ◌≤◌, length};
+ghost use Rattle.game.specs.Limits.{max_states, max_rules};
 ghost use Rattle.game.specs.Game.{PushdownGame};
 ghost use Rattle.game.specs.Held.{Held, Safe};
 ghost use Rattle.game.specs.declared.game.Sizes.{Sizes};
 ghost use Rattle.game.specs.Outcome.{said};
-ghost use Rattle.table.specs.Rows.{least_key};
 ghost use Rattle.table.specs.Table.{
-  entry_stride,
   length_in_form,
   entry_of,
   is_eloise,
@@ -15,15 +13,15 @@ ghost use Rattle.table.specs.Table.{
   birthdate_in_form,
   rule_in_form,
   entry_in_form,
+  follows,
   passes,
-  form_from,
   table_form,
 };
 
 use crate::entry::EntryWords;
 use game::{Answer, Game, Sizes, has_state, is_rule_of, is_within};
 
-// 13. Is the table well formed? Its length, then its entries in one pass from index 0.
+// 13. Is the table well formed? The state of the pass is the index and the entry before it.
 pub fn table_form(sizes: Sizes, rules: &[u8], words: &[u32]) -> Answer
     requires { Safe sizes rules.now }
     ensures { (g : PushdownGame) → Held g sizes rules.now → said result ≡ table_form g words.now }
@@ -34,33 +32,17 @@ pub fn table_form(sizes: Sizes, rules: &[u8], words: &[u32]) -> Answer
             place: 0,
         };
     }
-    entries_form(sizes, rules, 0, EntryWords::none(), words)
-}
-
-// 13 of a part of a table, in one pass: the entries from index `first` on, `before` being the one before them. At index 0 there is
-// none, and `before` is not looked at. What the pass keeps of the entry before is the least key that may follow it.
-pub fn entries_form(
-    sizes: Sizes,
-    rules: &[u8],
-    first: usize,
-    before: EntryWords,
-    words: &[u32],
-) -> Answer
-    requires { Safe sizes rules.now × (first + length words.now / entry_stride ≤ max_entries) }
-    ensures { (g : PushdownGame) → Held g sizes rules.now
-        → said result ≡ form_from g first before.first before.set before.rule words.now }
-{
-    let mut least = least_key(first, before);
+    let mut before = EntryWords::none();
     let mut i = 0;
     while i < words.len() / EntryWords::STRIDE {
         let entry = EntryWords::at(words, i);
-        if !does_pass(sizes, rules, least, entry) {
+        if !does_pass(sizes, rules, i, before, entry) {
             return Answer::Refused {
                 question: 13,
-                place: first + i,
+                place: i,
             };
         }
-        least = key_after(entry);
+        before = entry;
         i += 1;
     }
     Answer::Done
@@ -79,39 +61,32 @@ pub fn is_length(n: usize) -> bool
     n % EntryWords::STRIDE == 0
 }
 
-// The least key that a used entry may have at an index: any at index 0.
-fn least_key(i: usize, before: EntryWords) -> u64
-    ensures { result ≡ least_key i before.first before.set before.rule }
-{
-    if i == 0 {
-        return 0;
-    }
-    key_after(before)
-}
-
-// The least key that a used entry may have after another: the next one, and none after an unused entry.
-fn key_after(before: EntryWords) -> u64
-    ensures { (i : ℕ) → result ≡ least_key (i + 1) before.first before.set before.rule }
-{
-    if before.is_unused() {
-        return EntryWords::KEY_LIMIT;
-    }
-    before.key() + 1
-}
-
-// An entry is unused, or it has at least the least key, and is in form.
-fn does_pass(sizes: Sizes, rules: &[u8], least: u64, entry: EntryWords) -> bool
+// An entry is unused, or in form and after the one before it.
+fn does_pass(sizes: Sizes, rules: &[u8], i: usize, before: EntryWords, entry: EntryWords) -> bool
     requires { Safe sizes rules.now }
     ensures { (g : PushdownGame) → Held g sizes rules.now
-        → (i a b c : ℕ) → least ≡ least_key i a b c → result ≡ passes g i a b c entry.first entry.set entry.rule }
+        → result ≡ passes g i before.first before.set before.rule entry.first entry.set entry.rule }
 {
     if entry.is_unused() {
         return true;
     }
-    if entry.key() < least {
+    if !does_follow(i, before, entry) {
         return false;
     }
     is_entry_in_form(sizes, rules, entry)
+}
+
+// A used entry comes first, or after a used one of a lower key.
+fn does_follow(i: usize, before: EntryWords, entry: EntryWords) -> bool
+    ensures { result ≡ follows i before.first before.set before.rule (entry_of entry.first entry.set entry.rule) }
+{
+    if i == 0 {
+        return true;
+    }
+    if before.is_unused() {
+        return false;
+    }
+    before.key() < entry.key()
 }
 
 // A used entry is in form.

@@ -4,7 +4,7 @@ ghost use Rattle.table.specs.Table.{unused, entry_of, key_of};
 ghost use Rattle.table.specs.Rows.{words_at, no_words};
 
 // State + 256 × letter + 65,536 × birthdate; the set; the rule field. All three are 0 where the entry is unused.
-#[derive(Drop)]
+#[derive(Clone, Copy)]
 pub struct EntryWords {
     pub first: u32,
     pub set: u32,
@@ -14,9 +14,6 @@ pub struct EntryWords {
 impl EntryWords {
     // How many words an entry has.
     pub const STRIDE: usize = 3;
-
-    // More than any key.
-    pub const KEY_LIMIT: u64 = 281474976710656;
 
     // The entry at a place of a table.
     pub fn at(words: &[u32], i: usize) -> EntryWords

@@ -7,7 +7,7 @@ use game::Game;
 use script::{byte_of, copy, up, word, word_of};
 use table::EntryWords;
 
-#[derive(Drop)]
+#[derive(Clone, Copy)]
 pub struct Damage {
     pub kind: usize,
     pub entry: usize,

@@ -15,7 +15,7 @@ pub const ENTRIES: usize = 45;
 
 pub const WORDS: usize = 135;
 
-#[derive(Drop)]
+#[derive(Clone, Copy)]
 pub struct Fields {
     pub state: u8,
     pub letter: u8,

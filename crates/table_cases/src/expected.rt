@@ -2,7 +2,7 @@
 use game::Answer;
 use output::Line;
 
-#[derive(Drop)]
+#[derive(Clone, Copy)]
 pub struct Expected {
     pub why: usize,
     // The place of the refusal; where the table is sound, how many entries are used.

@@ -4,6 +4,8 @@
 //
 // That two calls answer as one, whatever the table, is the contract of `form_of_parts`; these are cases. It leaves out tables of a length
 // out of form, which have no parts, and damage to two entries at once.
+#![tactic(auto)]
+
 mod calls;
 mod cuts;
 mod damage;

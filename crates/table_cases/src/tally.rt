@@ -6,7 +6,7 @@ use output::Line;
 use script::{beyond, up};
 
 // What is checked: a kind of damage or of call, the entry that it is about, and the cut, or the index of a part.
-#[derive(Drop)]
+#[derive(Clone, Copy)]
 pub struct Case {
     pub what: usize,
     pub entry: usize,
@@ -43,7 +43,7 @@ impl Case {
     }
 }
 
-#[derive(Drop)]
+#[derive(Clone, Copy)]
 pub struct Tally {
     pub tried: usize,
     pub failed: usize,

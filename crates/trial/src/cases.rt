@@ -18,7 +18,7 @@ use table::EntryWords;
 pub const WHOLE: usize = EntryWords::STRIDE * Game::MAX_ENTRIES;
 
 // A case: whether there is one, its numbers, what it expects, and the offset after it.
-#[derive(Drop)]
+#[derive(Clone, Copy)]
 pub struct Row {
     pub found: bool,
     pub a: usize,

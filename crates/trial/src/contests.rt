@@ -11,7 +11,7 @@ use judge::judge;
 use script::{byte_at, byte_of, put, up, wide};
 
 // How a contest went: its moves, Abelard's among them, the letters of its highest stack, and whether it failed.
-#[derive(Drop)]
+#[derive(Clone, Copy)]
 pub struct Contested {
     pub moves: usize,
     pub turns: usize,
@@ -20,7 +20,7 @@ pub struct Contested {
 }
 
 // A position that begins at an offset of the buffer, the rule field that the judge reports of it, and whether it is lost.
-#[derive(Drop)]
+#[derive(Clone, Copy)]
 struct Stand {
     at: usize,
     field: usize,
@@ -28,7 +28,7 @@ struct Stand {
 }
 
 // A rule of a head, and how many were seen when it was drawn.
-#[derive(Drop)]
+#[derive(Clone, Copy)]
 struct Choice {
     seen: usize,
     rule: usize,

@@ -6,7 +6,7 @@ use crate::told::Told;
 use output::Line;
 use script::{beyond, up};
 
-#[derive(Drop)]
+#[derive(Clone, Copy)]
 pub struct Counts {
     // Games made, those refused for their size, and the most rounds of one.
     pub games: usize,

@@ -8,7 +8,7 @@ use script::{byte_of, put, put_long};
 
 // What the plain solver and the plays know of a game: its sizes, Abelard's states and the final ones as sets, and where its
 // rules and target transitions stand in the file.
-#[derive(Drop)]
+#[derive(Clone, Copy)]
 pub struct Shape {
     pub control: usize,
     pub letters: usize,
@@ -22,7 +22,7 @@ pub struct Shape {
 }
 
 // A game's number and its sizes.
-#[derive(Drop)]
+#[derive(Clone, Copy)]
 pub struct Base {
     pub number: usize,
     pub control: usize,

@@ -5,6 +5,8 @@
 //
 // It leaves out what the contracts say for all inputs: these are cases. It leaves out the reader's own cases, which are those
 // of `game_cases`.
+#![tactic(auto)]
+
 mod cases;
 mod contests;
 mod counts;

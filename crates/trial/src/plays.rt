@@ -10,7 +10,7 @@ use script::{byte_of, front, put, up};
 
 // A position with what the judge says of it. The rule is Éloise's; of a lost position it is its rule field, the number of Abelard's
 // plus 1, or 0. The bound is Told::NONE where there is none.
-#[derive(Drop)]
+#[derive(Clone, Copy)]
 pub struct Place {
     pub state: usize,
     pub stack: usize,
@@ -20,7 +20,7 @@ pub struct Place {
 }
 
 // How a play went: its moves, and whether it was given up as too long, or failed.
-#[derive(Drop)]
+#[derive(Clone, Copy)]
 pub struct Played {
     pub moves: usize,
     pub long: bool,
@@ -29,7 +29,7 @@ pub struct Played {
 
 // Of the positions that a head's rules lead to: the least bound, the largest one, and a rule that leads to that; and the number plus 1
 // of the lowest rule that leads to a lost one, or 0.
-#[derive(Drop)]
+#[derive(Clone, Copy)]
 pub struct Spread {
     pub least: u64,
     pub largest: u64,

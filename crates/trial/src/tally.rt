@@ -3,7 +3,7 @@ use crate::told::Told;
 use output::Line;
 use script::up;
 
-#[derive(Drop)]
+#[derive(Clone, Copy)]
 pub struct Tally {
     pub tried: usize,
     pub failed: usize,

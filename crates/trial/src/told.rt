@@ -4,7 +4,7 @@ use output::Line;
 use solver::Solution;
 
 // The kind, and two numbers whose meaning it gives.
-#[derive(Drop)]
+#[derive(Clone, Copy)]
 pub struct Told {
     pub kind: usize,
     pub first: u64,

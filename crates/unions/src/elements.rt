@@ -9,7 +9,7 @@ use game::{Game, Sizes};
 
 // How many elements there are, their states, the lowest first, and for each state its number as a set, 0 where it is no element. States
 // and numbers are those of the first ten.
-#[derive(Drop)]
+#[derive(Clone, Copy)]
 pub struct Numbering {
     pub count: usize,
     pub states: [u8; 16],

@@ -3,6 +3,8 @@
 // It has the few states that can be in a set and their numbers, by which a set is a small number; the families of unions over a set and a
 // letter, kept in lines and brought up to a table; what the ends of the runs over a rule's word have more than before; and the table written
 // from the entries in the order in which they came. It leaves out who takes these ends and the rounds, which are those of `saturation`.
+#![tactic(auto)]
+
 mod bytes;
 mod elements;
 mod ends;

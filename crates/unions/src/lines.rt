@@ -15,7 +15,7 @@ use crate::pairs::unite_pair;
 use family::{clear_at, copy_at, take_in, unite_into};
 
 // The number of a family, and how many lines there are.
-#[derive(Drop)]
+#[derive(Clone, Copy)]
 pub struct Found {
     pub family: usize,
     pub count: usize,

@@ -5,6 +5,8 @@
 //
 // A piece cut short is taken as the bytes that came, and without both length bytes the run ends. A read that fails counts
 // as the end of the input. It leaves out playing.
+#![tactic(auto)]
+
 use game::Game;
 use judge::{Verdict, judge};
 use libc::STDIN_FILENO;
@@ -13,7 +15,7 @@ use solver::{Solution, solve};
 use table::EntryWords;
 
 // What reading a piece answers: how many bytes of it came, or that the input ended before it.
-#[derive(Drop)]
+#[derive(Clone, Copy)]
 enum Piece {
     Bytes(usize),
     Ended,

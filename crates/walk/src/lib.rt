@@ -3,6 +3,8 @@
 //
 // It has the jobs of a round and the lists of ends of Abelard's later rules. It leaves out the enumeration of a job's runs with its memo,
 // which is that of `enumeration`, what a round is, which is below both, and the order of rounds and their end, which are the solver's.
+#![tactic(auto)]
+
 mod ends;
 mod round;
 
