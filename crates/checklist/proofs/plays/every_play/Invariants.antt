@@ -1,0 +1,13 @@
+use Prim.Native.Nat.{◌-◌}
+use mathlib.Core.Path.{◌≡◌}
+use lib.ListN.{length}
+use Rattle.checklist.proofs.plays.every_play.Given as goal
+
+-- `plays::every_play` ends and is safe. The loop keeps the length of the position's buffer. The measure is how many positions
+-- are left.
+-- Assumes nothing.
+abbrev pub invariant-loop-i : goal.invariant-loop-i
+invariant-loop-i l = length l.position ≡ length l.initial.position
+
+abbrev pub decreases-loop-i : goal.decreases-loop-i
+decreases-loop-i l = 84 - l.i

@@ -1,0 +1,14 @@
+use native.Mathlib.Omega.{arith}
+use mathlib.Core.Path.{refl}
+use lib.ListN.{length-set}
+use Rattle.game.proofs.Grown.{stores-target}
+use Rattle.game.proofs.game.store_target.Goals as goal
+
+pub bounds-targets-at-2 : goal.bounds-targets-at-2
+bounds-targets-at-2 c = simp length-set (omega (arith, c.requires))
+
+pub bounds-targets-at-3 : goal.bounds-targets-at-3
+bounds-targets-at-3 c = simp length-set (omega (arith, c.requires))
+
+pub returns : goal.returns
+returns c = (refl, λ ts n e. stores-target ts _ _ _ _ _ c.requires.0 n e)

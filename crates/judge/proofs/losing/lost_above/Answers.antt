@@ -1,0 +1,30 @@
+use native.Mathlib.Omega.{arith}
+use Rattle.judge.proofs.LostRules.{marked_start, marked_next, step-marked}
+use Rattle.judge.proofs.losing.lost_above.Goals as goal
+
+pub loop-q-init : goal.loop-q-init
+loop-q-init c = marked_start _ _
+
+pub is_head_lost-requires : goal.is_head_lost-requires
+is_head_lost-requires c = c.requires.1
+
+pub marked-set-requires : goal.marked-set-requires
+marked-set-requires c = omega (arith, c.requires.0, c.loop-q-test.true)
+
+pub overflow_add-q : goal.overflow_add-q
+overflow_add-q c = omega (arith, c.requires.0, c.loop-q-test.true)
+
+pub loop-q-smaller : goal.loop-q-smaller
+loop-q-smaller c = omega (arith, c.loop-q-test.true)
+
+pub loop-q-preserved : goal.loop-q-preserved
+loop-q-preserved c =
+    let at-loop = c.loop-q in
+    marked_next _ _ at-loop.q at-loop.set c.requires.0 at-loop.invariant c.loop-q-test.true _ c.is_head_lost.ensures
+    c.marked-set.ensures
+
+pub returns : goal.returns
+returns c =
+    λ ws l.
+    let at-loop = c.loop-q in
+    step-marked c.args.sizes _ l _ at-loop.q at-loop.set at-loop.invariant c.loop-q-test.false

@@ -1,0 +1,34 @@
+use mathlib.Core.Path.{refl}
+use native.Mathlib.Omega.{arith}
+use Rattle.judge.proofs.LostRules.{marked_start, marked_next, none-marked}
+use Rattle.judge.proofs.losing.lost_states.Goals as goal
+
+pub loop-q-init : goal.loop-q-init
+loop-q-init c = marked_start _ _
+
+pub overflow_cast-at : goal.overflow_cast-at
+overflow_cast-at c = omega (arith, c.requires)
+
+pub offset_bounds-below-at : goal.offset_bounds-below-at
+offset_bounds-below-at c = omega (arith, c.requires)
+
+pub bounds-below-at : goal.bounds-below-at
+bounds-below-at c = omega (arith, c.requires, c.well_formed)
+
+pub marked-set-requires : goal.marked-set-requires
+marked-set-requires c = omega (arith, c.requires, c.loop-q-test.true)
+
+pub overflow_add-q : goal.overflow_add-q
+overflow_add-q c = omega (arith, c.requires)
+
+pub loop-q-smaller : goal.loop-q-smaller
+loop-q-smaller c = omega arith
+
+pub loop-q-preserved : goal.loop-q-preserved
+loop-q-preserved c =
+    let at-loop = c.loop-q in
+    marked_next _ _ at-loop.q at-loop.set c.requires at-loop.invariant c.loop-q-test.true _ refl
+    c.marked-set.ensures
+
+pub returns : goal.returns
+returns c = none-marked c.requires c.loop-q.invariant c.loop-q-test.false

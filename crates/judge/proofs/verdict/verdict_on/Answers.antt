@@ -1,0 +1,58 @@
+use Rattle.judge.proofs.Steps.{field-small}
+use Rattle.judge.proofs.Bounds.{numbers, tamed, found, rule-least, strict, is_lost, is-target, is-abelard, is-eloise}
+use Rattle.judge.proofs.verdict.verdict_on.Goals as goal
+
+pub head_worth-bound-requires : goal.head_worth-bound-requires
+head_worth-bound-requires c =
+    let asked = c.requires in
+    let lent = asked.lent in
+    (lent.safe.states, lent.young, lent.sorted, tamed asked c.worths-below.ensures)
+
+pub lost_field-requires : goal.lost_field-requires
+lost_field-requires c = let lent = c.requires.lent in (lent.safe, lent.sorted)
+
+pub returns-then-bound : goal.returns-then-bound
+returns-then-bound c =
+    λ g h.
+    let at_head = c.before.before.before in
+    let at-worths = at_head.before.before in
+    let asked = at-worths.before.before.before.before.before.before.requires in
+    let below = at-worths.worths.ensures in
+    is_lost h (found asked below at_head.head-worth.ensures) c.if-bound.true (c.lost_field.ensures g h (numbers asked below))
+
+pub returns-then-bound-eq0 : goal.returns-then-bound-eq0
+returns-then-bound-eq0 c =
+    λ g h.
+    let at_head = c.before.before in
+    let at-worths = at_head.before.before in
+    let asked = at-worths.before.before.before.before.before.before.requires in
+    is-target h (found asked at-worths.worths.ensures at_head.head-worth.ensures) c.if-bound.false c.if-bound-eq0.true
+
+pub returns-then-has_state : goal.returns-then-has_state
+returns-then-has_state c =
+    λ g h.
+    let at_head = c.before.before.before.before in
+    let at-worths = at_head.before.before in
+    let asked = at-worths.before.before.before.before.before.before.requires in
+    let bound = found asked at-worths.worths.ensures at_head.head-worth.ensures in
+    is-abelard h bound c.if-bound.false c.if-bound-eq0.false c.has_state.ensures c.if-has_state.true
+
+pub least_rule-field-requires : goal.least_rule-field-requires
+least_rule-field-requires c =
+    let asked = c.requires in
+    let lent = asked.lent in
+    (lent.safe.states, lent.young, lent.sorted, tamed asked c.worths-below.ensures)
+
+pub returns : goal.returns
+returns c =
+    λ g h.
+    let at_head = c.before.before.before.before.before.before.before in
+    let at-worths = at_head.before.before in
+    let asked = at-worths.before.before.before.before.before.before.requires in
+    let below = at-worths.worths.ensures in
+    let bound = found asked below at_head.head-worth.ensures in
+    let bounded = c.if-bound.false in
+    let known = at-worths.before.before.before.before.shared-slice-known2.given in
+    let least = rule-least asked below (λ k. (known k).fits) (strict h bound bounded) c.least_rule-field.ensures in
+    is-eloise h bound bounded c.if-bound-eq0.false c.has_state.ensures c.if-has_state.false least c.rule_number.ensures
+    (field-small _ (λ k. (known k).fits))

@@ -1,0 +1,11 @@
+use Prim.Native.Nat.{◌-◌}
+use Rattle.noting.proofs.ClosingMasks.{Clearing}
+use Rattle.noting.proofs.closing.clear_rows.Given as goal
+
+-- The states from the first further one on are passed (`Clearing`). What falls is how many are left. Assumes what the contract requires.
+abbrev pub invariant-loop-q : goal.invariant-loop-q
+invariant-loop-q l =
+    Clearing l.control l.letters l.n l.initial.new l.initial.news l.q l.new l.news
+
+abbrev pub decreases-loop-q : goal.decreases-loop-q
+decreases-loop-q l = l.states - l.q

@@ -1,0 +1,34 @@
+use mathlib.Core.Path.{refl}
+use native.Mathlib.Omega.{arith}
+use Rattle.table.specs.Filling.{start, next, finish}
+use Rattle.rounds.proofs.area.copy.Goals as goal
+
+pub loop-i-init : goal.loop-i-init
+loop-i-init c = start _ _
+
+pub offset_bounds-from-i : goal.offset_bounds-from-i
+offset_bounds-from-i c = omega arith
+
+pub bounds-from-i : goal.bounds-from-i
+bounds-from-i c = omega arith
+
+pub offset_bounds-to-i : goal.offset_bounds-to-i
+offset_bounds-to-i c = omega (arith, c.requires)
+
+pub bounds-to-i : goal.bounds-to-i
+bounds-to-i c = omega (arith, c.requires, c.loop-i.invariant.long)
+
+pub overflow_add-i : goal.overflow_add-i
+overflow_add-i c = omega arith
+
+pub loop-i-smaller : goal.loop-i-smaller
+loop-i-smaller c = omega arith
+
+pub loop-i-preserved : goal.loop-i-preserved
+loop-i-preserved c = next _ _ _ c.loop-i.i c.loop-i.invariant (omega (arith, c.requires)) _ refl
+
+pub shape_of-to : goal.shape_of-to
+shape_of-to c = c.loop-i.invariant.long
+
+pub returns : goal.returns
+returns c = finish _ _ _ c.loop-i.i c.loop-i.invariant (omega (arith, c.requires)) c.requires

@@ -1,0 +1,103 @@
+use native.Mathlib.Omega.{arith}
+use mathlib.Core.Path.{refl, ◌∙◌}
+use Rattle.game.specs.LowestLaws.{cleared-falls}
+use Rattle.noting.specs.HeadNumbers.{few-heads, place-in-row, head_few}
+use Rattle.saturation.proofs.HeadLoop.{his, row_other, rowing-starts, rowing-past, rowing-full, rowing-on, rowing-ends}
+use Rattle.saturation.proofs.heads.take_row.Goals as goal
+
+pub overflow_cast-p : goal.overflow_cast-p
+overflow_cast-p c = omega (arith, c.requires.4)
+
+pub has_state-requires : goal.has_state-requires
+has_state-requires c = tt
+
+pub returns-then-not-has_state : goal.returns-then-not-has_state
+returns-then-not-has_state c =
+    record
+    { by_index = (λ el g old es now i rules control stirred k lp ew taking adding spared. row_other k _ c.has_state.ensures c.if-not-has_state.true c.requires.1 taking adding spared)
+    ; upper_bound = omega (arith, c.requires.1)
+    ; added_len_unchanged = refl
+    ; gains_len_unchanged = refl
+    ; log_len_unchanged = refl
+    }
+
+pub loop-rest-init : goal.loop-rest-init
+loop-rest-init c = rowing-starts _ _ _ _ _ _ _ _ _ _ _ _ _ _ _ _ _ c.requires.1
+
+pub lowest_set-a-requires : goal.lowest_set-a-requires
+lowest_set-a-requires c = omega (arith, c.loop-rest-test.true)
+
+pub shape_of-added-then-letters-a : goal.shape_of-added-then-letters-a
+shape_of-added-then-letters-a c = c.loop-rest.invariant.adds
+
+pub shape_of-gains-then-letters-a : goal.shape_of-gains-then-letters-a
+shape_of-gains-then-letters-a c = c.loop-rest.invariant.gaining
+
+pub shape_of-log-then-letters-a : goal.shape_of-log-then-letters-a
+shape_of-log-then-letters-a c = c.loop-rest.invariant.logs
+
+pub returns-then-letters-a : goal.returns-then-letters-a
+returns-then-letters-a c =
+    record
+    { by_index = (λ el g old es now i rules control stirred k lp ew taking adding spared. rowing-past _ _ _ _ _ _ _ _ _ _ _ _ _ _ _ _ _ c.loop-rest.invariant _ (omega (arith, c.loop-rest-test.true)) c.lowest_set-a.ensures c.if-letters-a.true el g old es now i rules control stirred k lp ew (his k _ c.has_state.ensures c.if-not-has_state.false) taking adding spared)
+    ; upper_bound = omega (arith, c.loop-rest.invariant.room)
+    ; added_len_unchanged = c.loop-rest.invariant.adds
+    ; gains_len_unchanged = c.loop-rest.invariant.gaining
+    ; log_len_unchanged = c.loop-rest.invariant.logs
+    }
+
+pub overflow_mul-p : goal.overflow_mul-p
+overflow_mul-p c = omega (arith, few-heads c.args.p c.args.letters (omega (arith, c.requires.4)) c.requires.5)
+
+pub overflow_add-p : goal.overflow_add-p
+overflow_add-p c = omega (arith, few-heads c.args.p c.args.letters (omega (arith, c.requires.4)) c.requires.5, c.if-letters-a.false, c.requires.5)
+
+pub take_head-entries-requires : goal.take_head-entries-requires
+take_head-entries-requires c = (omega (arith, c.requires.0, c.loop-rest.invariant.logs), c.loop-rest.invariant.room, c.requires.2, c.requires.3, c.requires.4, c.lowest_set-a.ensures.small, head_few _ _ _ c.requires.4 c.requires.5 c.if-letters-a.false, place-in-row _ _ _ _ _ _ c.if-letters-a.false c.requires.6 refl, place-in-row _ _ _ _ _ _ c.if-letters-a.false c.requires.7 c.loop-rest.invariant.adds, c.requires.8, c.requires.9, omega (arith, c.if-letters-a.false, c.requires.10), c.requires.11, c.requires.12, c.requires.13, c.requires.14, c.loop-rest.invariant.gaining ∙ c.requires.15)
+
+pub shape_of-added-then-size-entries : goal.shape_of-added-then-size-entries
+shape_of-added-then-size-entries c = c.take_head-entries.ensures.added_len_unchanged ∙ c.loop-rest.invariant.adds
+
+pub shape_of-gains-then-size-entries : goal.shape_of-gains-then-size-entries
+shape_of-gains-then-size-entries c = c.take_head-entries.ensures.gains_len_unchanged ∙ c.loop-rest.invariant.gaining
+
+pub shape_of-log-then-size-entries : goal.shape_of-log-then-size-entries
+shape_of-log-then-size-entries c = c.take_head-entries.ensures.log_len_unchanged ∙ c.loop-rest.invariant.logs
+
+pub returns-then-size-entries : goal.returns-then-size-entries
+returns-then-size-entries c =
+    record
+    { by_index = (λ el g old es now i rules control stirred k lp ew taking adding spared. rowing-full _ _ _ _ _ _ _ _ _ _ _ _ _ _ _ _ _ c.loop-rest.invariant _ (omega (arith, c.loop-rest-test.true)) c.lowest_set-a.ensures c.if-letters-a.false c.take_head-entries.ensures.by_index c.if-size-entries.true el g old es now i rules control stirred k lp ew (his k _ c.has_state.ensures c.if-not-has_state.false) taking adding spared)
+    ; upper_bound = c.take_head-entries.ensures.upper_bound
+    ; added_len_unchanged = c.take_head-entries.ensures.added_len_unchanged ∙ c.loop-rest.invariant.adds
+    ; gains_len_unchanged = c.take_head-entries.ensures.gains_len_unchanged ∙ c.loop-rest.invariant.gaining
+    ; log_len_unchanged = c.take_head-entries.ensures.log_len_unchanged ∙ c.loop-rest.invariant.logs
+    }
+
+pub overflow_sub-rest : goal.overflow_sub-rest
+overflow_sub-rest c = omega (arith, c.loop-rest-test.true)
+
+pub loop-rest-smaller : goal.loop-rest-smaller
+loop-rest-smaller c = cleared-falls _ (omega (arith, c.loop-rest-test.true))
+
+pub loop-rest-preserved : goal.loop-rest-preserved
+loop-rest-preserved c = rowing-on _ _ _ _ _ _ _ _ _ _ _ _ _ _ _ _ _ c.loop-rest.invariant _ (omega (arith, c.loop-rest-test.true)) c.lowest_set-a.ensures c.if-letters-a.false c.take_head-entries.ensures.by_index c.if-size-entries.false c.take_head-entries.ensures.added_len_unchanged c.take_head-entries.ensures.gains_len_unchanged c.take_head-entries.ensures.log_len_unchanged
+
+pub shape_of-added : goal.shape_of-added
+shape_of-added c = c.loop-rest.invariant.adds
+
+pub shape_of-gains : goal.shape_of-gains
+shape_of-gains c = c.loop-rest.invariant.gaining
+
+pub shape_of-log : goal.shape_of-log
+shape_of-log c = c.loop-rest.invariant.logs
+
+pub returns : goal.returns
+returns c =
+    record
+    { by_index = (λ el g old es now i rules control stirred k lp ew taking adding spared. rowing-ends _ _ _ _ _ _ _ _ _ _ _ _ _ _ _ _ _ c.loop-rest.invariant c.loop-rest-test.false el g old es now i rules control stirred k lp ew (his k _ c.has_state.ensures c.if-not-has_state.false) taking adding spared)
+    ; upper_bound = omega (arith, c.loop-rest.invariant.room)
+    ; added_len_unchanged = c.loop-rest.invariant.adds
+    ; gains_len_unchanged = c.loop-rest.invariant.gaining
+    ; log_len_unchanged = c.loop-rest.invariant.logs
+    }

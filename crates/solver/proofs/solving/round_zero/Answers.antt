@@ -1,0 +1,60 @@
+use native.Mathlib.Omega.{arith}
+use mathlib.Core.Path.{refl, ◌∙◌}
+use Rattle.rounds.specs.StoredRows.{long_of}
+use Rattle.solver.proofs.Targets.{adding-starts, adding-next, adding-ends, counted, many, state-small, letter-small, entry-small}
+use Rattle.solver.proofs.solving.round_zero.Goals as goal
+
+pub loop-t-init : goal.loop-t-init
+loop-t-init c = (refl, λ g n h e. adding-starts g n _ e)
+
+pub overflow_mul-at : goal.overflow_mul-at
+overflow_mul-at c = omega (arith, counted _ _ _ _ c.requires.1, many _ _ _ _ c.requires.1)
+
+pub offset_bounds-targets-at : goal.offset_bounds-targets-at
+offset_bounds-targets-at c = omega (arith, counted _ _ _ _ c.requires.1, many _ _ _ _ c.requires.1)
+
+pub bounds-targets-at : goal.bounds-targets-at
+bounds-targets-at c = omega (arith, counted _ _ _ _ c.requires.1, many _ _ _ _ c.requires.1)
+
+pub overflow_add-entry : goal.overflow_add-entry
+overflow_add-entry c = omega (arith, counted _ _ _ _ c.requires.1, many _ _ _ _ c.requires.1)
+
+pub offset_bounds-targets-at-in-loop-t : goal.offset_bounds-targets-at-in-loop-t
+offset_bounds-targets-at-in-loop-t c = omega (arith, counted _ _ _ _ c.requires.1, many _ _ _ _ c.requires.1)
+
+pub bounds-targets-at-in-loop-t : goal.bounds-targets-at-in-loop-t
+bounds-targets-at-in-loop-t c = omega (arith, counted _ _ _ _ c.requires.1, many _ _ _ _ c.requires.1)
+
+pub overflow_mul-entry : goal.overflow_mul-entry
+overflow_mul-entry c = omega (arith, letter-small _ _ _ _ c.requires.1 _ c.loop-t-test.true)
+
+pub overflow_add-entry-in-loop-t : goal.overflow_add-entry-in-loop-t
+overflow_add-entry-in-loop-t c = omega (arith, letter-small _ _ _ _ c.requires.1 _ c.loop-t-test.true, state-small _ _ _ _ c.requires.1 _ c.loop-t-test.true)
+
+pub overflow_add-entry-in-loop-t-2 : goal.overflow_add-entry-in-loop-t-2
+overflow_add-entry-in-loop-t-2 c = omega (arith, counted _ _ _ _ c.requires.1, many _ _ _ _ c.requires.1)
+
+pub offset_bounds-targets-at-in-loop-t-2 : goal.offset_bounds-targets-at-in-loop-t-2
+offset_bounds-targets-at-in-loop-t-2 c = omega (arith, counted _ _ _ _ c.requires.1, many _ _ _ _ c.requires.1)
+
+pub bounds-targets-at-in-loop-t-2 : goal.bounds-targets-at-in-loop-t-2
+bounds-targets-at-in-loop-t-2 c = omega (arith, counted _ _ _ _ c.requires.1, many _ _ _ _ c.requires.1)
+
+pub overflow_add-t : goal.overflow_add-t
+overflow_add-t c = omega (arith, counted _ _ _ _ c.requires.1, many _ _ _ _ c.requires.1)
+
+pub loop-t-smaller : goal.loop-t-smaller
+loop-t-smaller c = omega arith
+
+pub loop-t-preserved : goal.loop-t-preserved
+loop-t-preserved c = (c.insert-count.ensures.table_len_unchanged ∙ c.loop-t.invariant.0, λ g n h e. let a = c.loop-t.invariant.1 g n h e in adding-next g _ _ _ h _ c.loop-t-test.true n _ _ a _ _ (c.insert-count.ensures.by_index n a.now (long_of n _ _ a.now a.filled) a.filled (entry-small g _ _ _ h _ c.loop-t-test.true)))
+
+pub shape_of-table : goal.shape_of-table
+shape_of-table c = c.loop-t.invariant.0
+
+pub returns : goal.returns
+returns c =
+    record
+    { filled = λ g n h e. adding-ends g _ _ _ h n _ _ _ (c.loop-t.invariant.1 g n h e) c.loop-t-test.false
+    ; table_len_unchanged = c.loop-t.invariant.0
+    }

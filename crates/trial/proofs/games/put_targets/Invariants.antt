@@ -1,0 +1,12 @@
+use Prim.Native.Nat.{◌-◌}
+use mathlib.Core.Path.{◌≡◌}
+use lib.ListN.{length}
+use Rattle.trial.proofs.games.put_targets.Given as goal
+
+-- `games::put_targets` ends and is safe. The loop keeps the file's length. The measure is how many transitions are left.
+-- Assumes nothing.
+abbrev pub invariant-loop-i : goal.invariant-loop-i
+invariant-loop-i l = length l.file ≡ length l.initial.file
+
+abbrev pub decreases-loop-i : goal.decreases-loop-i
+decreases-loop-i l = 60 - l.i

@@ -1,0 +1,14 @@
+use Prim.Native.Nat.{◌-◌}
+use mathlib.Core.Path.{◌≡◌}
+use lib.ListN.{length}
+use borrow.Author.Rules.{rules}
+use Rattle.trial.proofs.plays.spread_of.Given as goal
+
+-- `plays::spread_of` ends and is safe. The loop keeps the length of the position's buffer. The measure is how many rules are
+-- left.
+-- Assumes nothing.
+abbrev pub invariant-loop-i : goal.invariant-loop-i
+invariant-loop-i l = length l.position ≡ length l.initial.position
+
+abbrev pub decreases-loop-i : goal.decreases-loop-i
+decreases-loop-i l = l.g.rulecount - l.i

@@ -1,0 +1,10 @@
+use Prim.Native.Nat.{◌≤◌}
+use Rattle.trial.proofs.trials.is_position.Given as goal
+
+-- `trials::is_position` ends and is safe. The measure is what is left of the stack, which each turn divides by 8.
+-- Assumes nothing.
+abbrev pub invariant-loop-rest : goal.invariant-loop-rest
+invariant-loop-rest l = l.rest ≤ l.stack
+
+abbrev pub decreases-loop-rest : goal.decreases-loop-rest
+decreases-loop-rest l = l.rest

@@ -1,0 +1,9 @@
+use native.Mathlib.Omega.{arith}
+use Rattle.game.specs.LowestLaws.{lowest-of}
+use Rattle.unions.proofs.elements.lowest_state.Goals as goal
+
+pub overflow_cast-result : goal.overflow_cast-result
+overflow_cast-result c = omega (arith, (lowest-of 32 _ c.requires c.ranges.set.fits).small)
+
+pub returns : goal.returns
+returns c = lowest-of 32 _ c.requires c.ranges.set.fits
