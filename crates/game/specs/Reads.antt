@@ -130,9 +130,9 @@ numbered_more n (x ∷ rs) r h e = (h.0, numbered_more (suc n) rs r h.1 (omega a
 one_more : {A : Type 0} {x y : A} (xs : List A) → Memᴰ x (xs ++ (y ∷ [])) → Memᴰ x xs ⊎ (x ≡ y)
 one_more xs m = ⊎_elim inl (λ n. inr (Memᴰ.eq_of_singleton n)) (Memᴰ.append_cases xs m)
 
-same_target : (q a s : ℕ) (t : Transition) → t ≡ record { state = q; letter = a; set = s } → same_target q a s t ≡ true
+same_target-self : (q a s : ℕ) (t : Transition) → t ≡ record { state = q; letter = a; set = s } → same_target q a s t ≡ true
 unfolding same_target
-same_target q a s t e = rw (e, eq-eqb q q refl, eq-eqb a a refl, eq-eqb s s refl)
+same_target-self q a s t e = rw (e, eq-eqb q q refl, eq-eqb a a refl, eq-eqb s s refl)
 
 distinct_more : (ts : List Transition) (q a s : ℕ) → Distinct ts → any (same_target q a s) ts ≡ false → Distinct (ts ++ (record { state = q; letter = a; set = s } ∷ []))
 distinct_more ts q a s d none i j h l e =
@@ -145,7 +145,7 @@ distinct_more ts q a s d none i j h l e =
     (λ (k : j ≡ length ts).
     impossible
     (sym (none-at (same_target q a s) no_transition ts none i here)
-    ∙ same_target q a s _ (sym old ∙ e ∙ ap (λ (x : ℕ). get_or (ts ++ (t ∷ [])) x no_transition) k ∙ get_or-append_seam ts t [] no_transition)))
+    ∙ same_target-self q a s _ (sym old ∙ e ∙ ap (λ (x : ℕ). get_or (ts ++ (t ∷ [])) x no_transition) k ∙ get_or-append_seam ts t [] no_transition)))
     (below_suc (omega arith))
 
 -- questions 3 to 7 passed keep the game in range

@@ -1,5 +1,6 @@
 use mathlib.Core.Path.{ap, ◌∙◌}
 use mathlib.Core.Bool.{true, not}
+use borrow.Enum.Refused.{opened}
 use Rattle.game.specs.Sets.{has}
 use Rattle.game.specs.Stored.{padded}
 use Rattle.game.specs.Questions.{is_new}

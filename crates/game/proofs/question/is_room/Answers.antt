@@ -1,3 +1,4 @@
+use borrow.Enum.Refused.{opened}
 use Rattle.game.specs.Questions.{has_room}
 use Rattle.game.proofs.Commands.{room-other}
 use Rattle.game.proofs.question.is_room.Goals as goal
@@ -11,4 +12,4 @@ unfolding has_room
 returns-in-Target c = rw c.in-Target.is
 
 pub returns-in_default : goal.returns-in_default
-returns-in_default c = room-other _ _ _ c.in_default.in_default-own.keys3
+returns-in_default c = room-other _ _ _ (opened c.in_default.in_default-own.keys3)

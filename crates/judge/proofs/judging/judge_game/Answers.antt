@@ -17,21 +17,18 @@ table_form-formed-requires c =
 pub returns-in_default : goal.returns-in_default
 returns-in_default c =
     λ g e r.
-    let at-form = c.before.before.before in
     let holds = held _ g _ e r (c.sizes-sizes.ensures ∙ ap held_sizes e) in
     ap judged c.refusal.ensures
-    ∙ no_table g _ _ at-form.table-form.result (at-form.table-form.ensures g holds) c.in_default.in_default-own.keys2
+    ∙ no_table g _ _ c.table_form-formed.result (c.table_form-formed.ensures g holds) c.in_default.in_default-own.keys2
 
 pub returns-in_default-shaped : goal.returns-in_default-shaped
 returns-in_default-shaped c =
     λ g e r.
-    let at-form = c.before.before.before.before.before.before in
-    let at_position = c.before.before.before in
     let holds = held _ g _ e r (c.sizes-sizes.ensures ∙ ap held_sizes e) in
     ap judged c.refusal-in_default-shaped.ensures
-    ∙ no-position g _ _ at-form.table-form.result (at-form.table-form.ensures g holds) c.in-Done.is
-    at_position.position-form.result
-    (by-game g _ _ holds.sized at_position.position-form.result at_position.position-form.ensures)
+    ∙ no-position g _ _ c.table_form-formed.result (c.table_form-formed.ensures g holds) c.in-Done.is
+    c.position_form-shaped.result
+    (by-game g _ _ holds.sized c.position_form-shaped.result c.position_form-shaped.ensures)
     c.in_default-shaped.in_default-shaped-own.keys2
 
 pub bounds-position-0 : goal.bounds-position-0
@@ -46,26 +43,21 @@ slice_bounds-verdict_on-count c =
 
 pub verdict_on-requires : goal.verdict_on-requires
 verdict_on-requires c =
-    let at-form = c.before.before.before.before.before.before.before.before.before in
-    let at-sizes = at-form.before.before.before in
-    let start = at-sizes.before.before.before in
-    let g = start.requires.0 in
-    let holds = held _ g _ start.requires.1 start.requires.2 (at-sizes.sizes.ensures ∙ ap held_sizes start.requires.1) in
-    let told = at-form.table-form.ensures g holds in
-    let formed = table_done g _ start.args.position.now at-form.table-form.result told c.in-Done.is in
+    let g = c.requires.0 in
+    let holds = held _ g _ c.requires.1 c.requires.2 (c.sizes-sizes.ensures ∙ ap held_sizes c.requires.1) in
+    let told = c.table_form-formed.ensures g holds in
+    let formed = table_done g _ c.args.position.now c.table_form-formed.result told c.in-Done.is in
     let shaped = sym c.position_form-shaped.ensures ∙ ap said c.in-Done-shaped.is in
     ready g _ _ holds _ _ formed (in_bytes _ _ _ shaped) _ c.used_part.ensures
 
 pub returns : goal.returns
 returns c =
     λ g e r.
-    let at-form = c.before.before.before.before.before.before.before.before.before.before in
-    let at_position = c.before.before.before.before.before.before.before in
     let holds = held _ g _ e r (c.sizes-sizes.ensures ∙ ap held_sizes e) in
-    let shaped = by-game g _ _ holds.sized at_position.position-form.result at_position.position-form.ensures in
+    let shaped = by-game g _ _ holds.sized c.position_form-shaped.result c.position_form-shaped.ensures in
     c.verdict_on.ensures g holds
     ∙ sym
-    (both-passed g _ _ at-form.table-form.result (at-form.table-form.ensures g holds) c.in-Done.is
+    (both-passed g _ _ c.table_form-formed.result (c.table_form-formed.ensures g holds) c.in-Done.is
     (sym shaped ∙ ap said c.in-Done-shaped.is)
     _
     c.used_part.ensures)

@@ -7,33 +7,30 @@ start_of-i-requires c = omega arith
 
 pub loop-i-init : goal.loop-i-init
 loop-i-init c =
-    let start = c.before.before in
-    let x = start.args in
-    begin _ start.requires _ _ (open_number x.q x.a x.lost) (open-away x.q x.a x.lost) _ c.start_of-i.ensures
+    let x = c.args in
+    begin _ c.requires _ _ (open_number x.q x.a x.lost) (open-away x.q x.a x.lost) _ c.start_of-i.ensures
 
 pub at-entry-requires : goal.at-entry-requires
 at-entry-requires c = omega (arith, c.loop-i-test.true)
 
 pub returns-then-not-is_of_head : goal.returns-then-not-is_of_head
 returns-then-not-is_of_head c =
-    let start = c.before.before.before.before.before.before.before in
-    let x = start.args in
+    let x = c.args in
     let at-loop = c.loop-i in
     let away = told x.table.now at-loop.i x.q x.a _ c.at-entry.ensures _ c.is_of_head.ensures _ (c.if-not-is_of_head.true) in
     open-lost x.q x.a x.lost _
-    (stops _ start.requires _ _ (open_number x.q x.a x.lost) (open-away x.q x.a x.lost) at-loop.i _ at-loop.invariant (omega arith)
+    (stops _ c.requires _ _ (open_number x.q x.a x.lost) (open-away x.q x.a x.lost) at-loop.i _ at-loop.invariant (omega arith)
     (λ k. (c.shared_slice_known-1.given k).fits)
     c.loop-i-test.true
     away)
 
 pub returns-then-entry-lost-eq0 : goal.returns-then-entry-lost-eq0
 returns-then-entry-lost-eq0 c =
-    let start = c.before.before.before.before.before.before.before.before.before in
-    let x = start.args in
+    let x = c.args in
     let at-loop = c.loop-i in
     let entry = c.at-entry.ensures in
     let here = told x.table.now at-loop.i x.q x.a _ entry _ c.is_of_head.ensures _ (c.if-not-is_of_head.false) in
-    open-found x.q x.a x.lost x.table.now at-loop.i _ entry here start.requires at-loop.invariant c.loop-i-test.true c.if-entry-lost-eq0.true
+    open-found x.q x.a x.lost x.table.now at-loop.i _ entry here c.requires at-loop.invariant c.loop-i-test.true c.if-entry-lost-eq0.true
 
 pub overflow_add-i : goal.overflow_add-i
 overflow_add-i c = omega arith
@@ -43,21 +40,19 @@ loop-i-smaller c = omega arith
 
 pub loop-i-preserved : goal.loop-i-preserved
 loop-i-preserved c =
-    let start = c.before.before.before.before.before.before.before.before.before in
-    let x = start.args in
+    let x = c.args in
     let at-loop = c.loop-i in
     let entry = c.at-entry.ensures in
     let here = told x.table.now at-loop.i x.q x.a _ entry _ c.is_of_head.ensures _ (c.if-not-is_of_head.false) in
-    turn _ start.requires _ _ (open_number x.q x.a x.lost) (open-away x.q x.a x.lost) at-loop.i _ at-loop.invariant
+    turn _ c.requires _ _ (open_number x.q x.a x.lost) (open-away x.q x.a x.lost) at-loop.i _ at-loop.invariant
     c.loop-i-test.true
     _
     (open_none x.q x.a x.lost x.table.now at-loop.i _ entry here c.if-entry-lost-eq0.false)
 
 pub returns : goal.returns
 returns c =
-    let start = c.before.before.before.before in
-    let x = start.args in
+    let x = c.args in
     let at-loop = c.loop-i in
     open-lost x.q x.a x.lost _
-    (finish _ start.requires _ _ (open_number x.q x.a x.lost) (open-away x.q x.a x.lost) at-loop.i _ at-loop.invariant
+    (finish _ c.requires _ _ (open_number x.q x.a x.lost) (open-away x.q x.a x.lost) at-loop.i _ at-loop.invariant
     c.loop-i-test.false)

@@ -14,27 +14,21 @@ lost_field-requires c = let lent = c.requires.lent in (lent.safe, lent.sorted)
 pub returns-then-bound : goal.returns-then-bound
 returns-then-bound c =
     λ g h.
-    let at_head = c.before.before.before in
-    let at-worths = at_head.before.before in
-    let asked = at-worths.before.before.before.before.before.before.requires in
-    let below = at-worths.worths.ensures in
-    is_lost h (found asked below at_head.head-worth.ensures) c.if-bound.true (c.lost_field.ensures g h (numbers asked below))
+    let asked = c.requires in
+    let below = c.worths-below.ensures in
+    is_lost h (found asked below c.head_worth-bound.ensures) c.if-bound.true (c.lost_field.ensures g h (numbers asked below))
 
 pub returns-then-bound-eq0 : goal.returns-then-bound-eq0
 returns-then-bound-eq0 c =
     λ g h.
-    let at_head = c.before.before in
-    let at-worths = at_head.before.before in
-    let asked = at-worths.before.before.before.before.before.before.requires in
-    is-target h (found asked at-worths.worths.ensures at_head.head-worth.ensures) c.if-bound.false c.if-bound-eq0.true
+    let asked = c.requires in
+    is-target h (found asked c.worths-below.ensures c.head_worth-bound.ensures) c.if-bound.false c.if-bound-eq0.true
 
 pub returns-then-has_state : goal.returns-then-has_state
 returns-then-has_state c =
     λ g h.
-    let at_head = c.before.before.before.before in
-    let at-worths = at_head.before.before in
-    let asked = at-worths.before.before.before.before.before.before.requires in
-    let bound = found asked at-worths.worths.ensures at_head.head-worth.ensures in
+    let asked = c.requires in
+    let bound = found asked c.worths-below.ensures c.head_worth-bound.ensures in
     is-abelard h bound c.if-bound.false c.if-bound-eq0.false c.has_state.ensures c.if-has_state.true
 
 pub least_rule-field-requires : goal.least_rule-field-requires
@@ -46,13 +40,11 @@ least_rule-field-requires c =
 pub returns : goal.returns
 returns c =
     λ g h.
-    let at_head = c.before.before.before.before.before.before.before in
-    let at-worths = at_head.before.before in
-    let asked = at-worths.before.before.before.before.before.before.requires in
-    let below = at-worths.worths.ensures in
-    let bound = found asked below at_head.head-worth.ensures in
+    let asked = c.requires in
+    let below = c.worths-below.ensures in
+    let bound = found asked below c.head_worth-bound.ensures in
     let bounded = c.if-bound.false in
-    let known = at-worths.before.before.before.before.shared-slice-known2.given in
+    let known = c.shared_slice_known-2-1.given in
     let least = rule-least asked below (λ k. (known k).fits) (strict h bound bounded) c.least_rule-field.ensures in
     is-eloise h bound bounded c.if-bound-eq0.false c.has_state.ensures c.if-has_state.false least c.rule_number.ensures
     (field-small _ (λ k. (known k).fits))

@@ -1,6 +1,7 @@
 use mathlib.Core.Path.{refl, sym, ◌∙◌}
 use native.Mathlib.Omega.{arith}
 use borrow.Author.Tests.{lt-ltb, le-ltb}
+use borrow.Enum.Refused.{opened}
 use Rattle.game.specs.Questions.{reading}
 use Rattle.game.specs.Stored.{padded, rule_bytes, target_words}
 use Rattle.game.proofs.Filtering.{none-marked}
@@ -21,10 +22,8 @@ loop-at-init c = start _ _ _ _ _ c.if-file-lt1.false c.if-file-gt-MAX_FILE.false
 
 pub returns-in_default : goal.returns-in_default
 returns-in_default c =
-    let at-match = c.before.before in
-    let at_turn = at-match.before.before in
     rw
-    (stops _ _ _ _ _ _ at_turn.before.loop.invariant at_turn.loop-test.true _ at-match.before.read-command.ensures at-match.match.keys2, ← c.ask_found.ensures)
+    (stops _ _ _ _ _ _ c.loop-at.invariant c.loop-at-test.true _ c.read_command-found.ensures (opened c.in_default.in_default-own.keys2), ← c.ask_found.ensures)
     c.refuse-in_default.ensures
 
 pub slice_bounds-ask_command-end : goal.slice_bounds-ask_command-end
@@ -64,7 +63,7 @@ pub loop-at-smaller : goal.loop-at-smaller
 loop-at-smaller c = omega (arith, further _ _ _ _ _ _ c.loop-at.invariant c.loop-at-test.true _ _ (sym c.read_command-found.ensures ∙ c.in-Next.is))
 
 pub loop-at-preserved : goal.loop-at-preserved
-loop-at-preserved c = goes _ _ _ _ _ _ c.loop-at.invariant c.loop-at-test.true _ _ (sym c.read_command-found.ensures ∙ c.in-Next.is) _ (c.ask_command-number.ensures _ c.loop-at.invariant.held c.loop-at.invariant.marked) c.if-number-ne0.false _ _ _ _ (c.with-sizes.ensures.parts _ c.loop-at.invariant.held) (c.with-sizes.ensures.filtered _ c.loop-at.invariant.marked) c.in_default-command.in_default-command-own.keys2
+loop-at-preserved c = goes _ _ _ _ _ _ c.loop-at.invariant c.loop-at-test.true _ _ (sym c.read_command-found.ensures ∙ c.in-Next.is) _ (c.ask_command-number.ensures _ c.loop-at.invariant.held c.loop-at.invariant.marked) c.if-number-ne0.false _ _ _ _ (c.with-sizes.ensures.parts _ c.loop-at.invariant.held) (c.with-sizes.ensures.filtered _ c.loop-at.invariant.marked) (opened c.in_default-command.in_default-command-own.keys2)
 
 pub returns : goal.returns
 returns c = rw (runs-out _ _ _ _ _ _ c.loop-at.invariant c.loop-at-test.false) c.refuse-2.ensures
