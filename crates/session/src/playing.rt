@@ -19,8 +19,9 @@ pub fn play(file: &[u8], s: &mut Session, rule: u32) -> Answer
     ensures { left result s.new ≡ move file.now s.old rule }
 {
     let played = play_move(file, s.state, s.stack, s.height, rule);
+    let stack = played.stack;
     s.state = played.state;
-    s.stack = played.stack;
+    s.stack = stack;
     s.height = played.height;
     played.answer
 }

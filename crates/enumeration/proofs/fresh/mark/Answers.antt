@@ -1,3 +1,4 @@
+use borrow.Author.Rules.{rules}
 use Prim.Native.Nat.{ℕ}
 use native.Mathlib.Omega.{arith}
 use mathlib.Core.Path.{refl, ap, ◌∙◌}
@@ -32,5 +33,5 @@ pub returns : goal.returns
 returns c =
     record
     { marked = λ long m. mark_set c.args.work.now c.args.fresh.now _ c.args.i m c.at-entry.result.first (ap (λ (x : EntryWords). x.first) c.at-entry.ensures) c.letter-at.result c.joined.result c.letter-at.ensures (omega (arith, c.if-fresh-at.false)) (c.joined.ensures (omega (arith, c.if-state-ge-MAX_STATES.false)) ∙ ap (λ (q : ℕ). union (get_or c.args.fresh.now c.letter-at.result 0) (single q)) c.state-state.ensures)
-    ; fresh_len_unchanged = same_length c
+    ; fresh_len_unchanged = search rules
     }

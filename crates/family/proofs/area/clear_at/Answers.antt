@@ -1,3 +1,4 @@
+use borrow.Author.Rules.{rules}
 use native.Mathlib.Omega.{arith}
 use mathlib.Core.Path.{refl}
 use lib.ListN.{length-set}
@@ -14,7 +15,7 @@ pub returns-then-n-eq1 : goal.returns-then-n-eq1
 returns-then-n-eq1 c =
     record
     { cleared = cleared-one _ _ _ c.if-n-eq1.true c.requires
-    ; words_len_unchanged = same_length c
+    ; words_len_unchanged = search rules
     }
 
 pub offset_bounds-words-at-then-n-eq2 : goal.offset_bounds-words-at-then-n-eq2
@@ -36,7 +37,7 @@ pub returns-then-n-eq2 : goal.returns-then-n-eq2
 returns-then-n-eq2 c =
     record
     { cleared = cleared-two _ _ _ c.if-n-eq2.true c.requires
-    ; words_len_unchanged = same-length-2 c
+    ; words_len_unchanged = search rules
     }
 
 pub offset_bounds-words-at-then-n-eq4 : goal.offset_bounds-words-at-then-n-eq4
@@ -76,7 +77,7 @@ pub returns-then-n-eq4 : goal.returns-then-n-eq4
 returns-then-n-eq4 c =
     record
     { cleared = cleared-four _ _ _ c.if-n-eq4.true c.requires
-    ; words_len_unchanged = same-length-3 c
+    ; words_len_unchanged = search rules
     }
 
 pub loop-i-init : goal.loop-i-init

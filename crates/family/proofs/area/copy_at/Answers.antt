@@ -1,3 +1,4 @@
+use borrow.Author.Rules.{rules}
 use native.Mathlib.Omega.{arith}
 use mathlib.Core.Path.{refl}
 use lib.ListN.{length-set}
@@ -20,7 +21,7 @@ pub returns-then-n-eq1 : goal.returns-then-n-eq1
 returns-then-n-eq1 c =
     record
     { copied = copied-one _ _ _ _ _ c.if-n-eq1.true c.requires.0
-    ; words_len_unchanged = same_length c
+    ; words_len_unchanged = search rules
     }
 
 pub offset_bounds-others-at-then-n-eq2 : goal.offset_bounds-others-at-then-n-eq2
@@ -57,7 +58,7 @@ pub returns-then-n-eq2 : goal.returns-then-n-eq2
 returns-then-n-eq2 c =
     record
     { copied = copied-two _ _ _ _ _ c.if-n-eq2.true c.requires.0
-    ; words_len_unchanged = same-length-2 c
+    ; words_len_unchanged = search rules
     }
 
 pub offset_bounds-others-at-then-n-eq4 : goal.offset_bounds-others-at-then-n-eq4
@@ -130,7 +131,7 @@ pub returns-then-n-eq4 : goal.returns-then-n-eq4
 returns-then-n-eq4 c =
     record
     { copied = copied-four _ _ _ _ _ c.if-n-eq4.true c.requires.0
-    ; words_len_unchanged = same-length-3 c
+    ; words_len_unchanged = search rules
     }
 
 pub loop-i-init : goal.loop-i-init

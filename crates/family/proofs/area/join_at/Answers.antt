@@ -1,3 +1,4 @@
+use borrow.Author.Rules.{rules}
 use native.Mathlib.Omega.{arith}
 use mathlib.Core.Path.{refl}
 use Rattle.family.proofs.Areas.{walk-starts, walk_here, walk-on, joined, joined-all, joined-one}
@@ -25,7 +26,7 @@ pub returns-then-n-eq1 : goal.returns-then-n-eq1
 returns-then-n-eq1 c =
     record
     { joined = joined-one _ _ _ _ _ c.if-n-eq1.true c.requires.0
-    ; words_len_unchanged = same_length c
+    ; words_len_unchanged = search rules
     }
 
 pub loop-i-init : goal.loop-i-init

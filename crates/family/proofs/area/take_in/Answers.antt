@@ -1,3 +1,4 @@
+use borrow.Author.Rules.{rules}
 use native.Mathlib.Omega.{arith}
 use mathlib.Core.Path.{refl}
 use Rattle.family.proofs.Areas.{walk-starts, walk_here, walk-on, taken-all, taken-one}
@@ -37,8 +38,8 @@ pub returns-then-n-eq1 : goal.returns-then-n-eq1
 returns-then-n-eq1 c =
     record
     { taken_in = taken-one _ _ _ _ _ c.if-n-eq1.true c.requires.0 c.requires.1
-    ; all_len_unchanged = same_length c
-    ; len_unchanged = same-length-2 c
+    ; all_len_unchanged = search rules
+    ; len_unchanged = search rules
     }
 
 pub loop-t-init : goal.loop-t-init

@@ -1,3 +1,4 @@
+use borrow.Author.Rules.{rules}
 use native.Mathlib.Omega.{arith}
 use mathlib.Core.Path.{refl}
 use Rattle.family.proofs.Areas.{walk-starts, walk_here, walk-on, missing-on, more-all, more-one, none-missing, none-missing-one, is_zero}
@@ -32,7 +33,7 @@ returns-then-n-eq1 c =
     record
     { joined = more-one _ _ _ _ c.if-n-eq1.true c.requires.0
     ; x_value = λ e. none-missing-one _ _ _ _ c.if-n-eq1.true (is_zero _ e)
-    ; all_len_unchanged = same_length c
+    ; all_len_unchanged = search rules
     }
 
 pub loop-t-init : goal.loop-t-init

@@ -1,3 +1,4 @@
+use borrow.Author.Rules.{rules}
 use Rattle.noting.proofs.ActiveRules.{left-later, left-first}
 use Rattle.noting.proofs.readers.find_active.Goals as goal
 
@@ -5,14 +6,14 @@ pub returns-then-not-is_first : goal.returns-then-not-is_first
 returns-then-not-is_first c =
     record
     { by_index = left-later _ _ _ _ _ _ _ _ _ _ _ c.find_first.ensures.first_to c.join_at.ensures.joined c.find_second.ensures.second_to c.if-not-is_first.true
-    ; held_len_unchanged = same_length c
-    ; active_len_unchanged = same-length-2 c
+    ; held_len_unchanged = search rules
+    ; active_len_unchanged = search rules
     }
 
 pub returns : goal.returns
 returns c =
     record
     { by_index = left-first _ _ _ _ _ _ _ _ _ _ _ c.find_first.ensures.first_to c.join_at.ensures.joined c.find_second.ensures.second_to _ c.join_at-2.ensures.joined
-    ; held_len_unchanged = same-length-3 c
-    ; active_len_unchanged = same-length-4 c
+    ; held_len_unchanged = search rules
+    ; active_len_unchanged = search rules
     }

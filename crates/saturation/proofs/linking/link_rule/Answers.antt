@@ -1,3 +1,4 @@
+use borrow.Author.Rules.{rules}
 use native.Mathlib.Omega.{arith}
 use mathlib.Core.Path.{refl}
 use lib.Arith.{digits_lt}
@@ -10,7 +11,7 @@ returns-then-control-state c =
     record
     { linked_from = λ from. linked-beyond _ _ _ _ _ _ _ c.requires.4 (omega (arith, c.requires.1, c.requires.4, c.requires.6)) from _ c.next_rule.ensures (λ l m. omega (arith, l, c.if-control-state.true, c.number_of-state.ensures.0))
     ; firsts_len_unchanged = refl
-    ; nexts_len_unchanged = same_length c
+    ; nexts_len_unchanged = search rules
     }
 
 pub returns-then-letters-letter : goal.returns-then-letters-letter
@@ -18,7 +19,7 @@ returns-then-letters-letter c =
     record
     { linked_from = λ from. linked-beyond _ _ _ _ _ _ _ c.requires.4 (omega (arith, c.requires.1, c.requires.4, c.requires.6)) from _ c.next_rule-then-letters-letter.ensures (λ l m. omega (arith, m, c.if-letters-letter.true, c.number_of-letter.ensures.0))
     ; firsts_len_unchanged = refl
-    ; nexts_len_unchanged = same-length-2 c
+    ; nexts_len_unchanged = search rules
     }
 
 pub overflow_mul-head : goal.overflow_mul-head
@@ -43,6 +44,6 @@ pub returns : goal.returns
 returns c =
     record
     { linked_from = λ from. linked-at _ _ _ _ _ _ _ c.requires.4 (omega (arith, c.requires.1, c.requires.4, c.requires.6)) from _ _ c.number_of-state.ensures.0 c.number_of-letter.ensures.0 c.if-control-state.false c.if-letters-letter.false (omega (arith, digits_lt c.if-control-state.false c.if-letters-letter.false, c.requires.5))
-    ; firsts_len_unchanged = same-length-3 c
-    ; nexts_len_unchanged = same-length-4 c
+    ; firsts_len_unchanged = search rules
+    ; nexts_len_unchanged = search rules
     }
