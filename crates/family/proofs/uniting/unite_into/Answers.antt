@@ -4,6 +4,7 @@ use mathlib.Core.Logic.{⊎_elim}
 use lib.ListN.{length-set}
 use Rattle.family.proofs.Into.{adding-starts, adding-skips, adding-more, adding-ends, one_word}
 use Rattle.family.proofs.uniting.unite_into.Goals as goal
+use Rattle.family.proofs.uniting.unite_into.Goals.{then-word-ne0, else-word-ne0}
 
 pub bounds-out-0 : goal.bounds-out-0
 bounds-out-0 c = omega (arith, c.requires.0)
@@ -58,7 +59,10 @@ pub loop-i-smaller : goal.loop-i-smaller
 loop-i-smaller c = omega (arith, c.loop-i-test.true)
 
 pub loop-i-preserved : goal.loop-i-preserved
-loop-i-preserved c = ⊎_elim (λ w. rw w.5 (w.2.ensures.1 ∙ c.loop-i.invariant.0, omega (arith, c.loop-i-test.true), λ r. adding-more _ _ _ _ _ _ _ _ (c.loop-i.invariant.2 r) _ (w.2.ensures.0 r))) (λ w. rw w.1 (c.loop-i.invariant.0, omega (arith, c.loop-i-test.true), λ r. adding-skips _ _ _ _ _ _ _ _ (c.loop-i.invariant.2 r) w.0.left)) c.if-word-ne0.branch
+loop-i-preserved c =
+    elim c.if-word-ne0.branch
+    [ then-word-ne0 w ↦ rw w.out-is (w.unite_with.ensures.out_len_unchanged ∙ c.loop-i.invariant.0, omega (arith, c.loop-i-test.true), λ r. adding-more _ _ _ _ _ _ _ _ (c.loop-i.invariant.2 r) _ (w.unite_with.ensures.row r))
+    | else-word-ne0 w ↦ rw w.out-is (c.loop-i.invariant.0, omega (arith, c.loop-i-test.true), λ r. adding-skips _ _ _ _ _ _ _ _ (c.loop-i.invariant.2 r) w.if-word-ne0.false) ]
 
 pub shape_of-out : goal.shape_of-out
 shape_of-out c = c.loop-i.invariant.0

@@ -7,6 +7,7 @@ use lib.Bits.{or_self}
 use Rattle.family.proofs.Within.{left-least, above-contains}
 use Rattle.family.proofs.Into.{placed-starts, placed-skips, placed-more, placed-ends}
 use Rattle.family.proofs.uniting.unite_with.Goals as goal
+use Rattle.family.proofs.uniting.unite_with.Goals.{then-many-ne0, else-many-ne0}
 
 pub loop-p-init : goal.loop-p-init
 loop-p-init c = (refl, or_self _, λ r. placed-starts _ _ _ _ _ _ c.requires.4 c.requires.2)
@@ -37,10 +38,10 @@ loop-p-smaller c = omega (arith, c.loop-p-test.true, left-least (c.loop-p.p + 1)
 
 pub loop-p-preserved : goal.loop-p-preserved
 loop-p-preserved c =
-    ⊎_elim
-    (λ w. rw w.3 (rw length-set c.loop-p.invariant.0, above-contains c.args.i c.loop-p.p (omega (arith, c.requires.2, c.requires.4)) (omega (arith, c.loop-p-test.true, c.requires.4)), λ r. placed-more _ _ _ _ _ _ c.requires.4 c.requires.2 _ _ (c.loop-p.invariant.2 r) c.loop-p.invariant.1 c.loop-p-test.true _ c.gathered-many.ensures (omega (arith, c.requires.4, c.requires.0, c.loop-p.invariant.0, c.loop-p-test.true)) _ (w.2.ensures r)))
-    (λ w. rw w.1 (c.loop-p.invariant.0, above-contains c.args.i c.loop-p.p (omega (arith, c.requires.2, c.requires.4)) (omega (arith, c.loop-p-test.true, c.requires.4)), λ r. placed-skips _ _ _ _ _ _ c.requires.4 c.requires.2 _ _ (c.loop-p.invariant.2 r) c.loop-p.invariant.1 c.loop-p-test.true _ c.gathered-many.ensures w.0.left))
-    c.if-many-ne0.branch
+    let past = above-contains c.args.i c.loop-p.p (omega (arith, c.requires.2, c.requires.4)) (omega (arith, c.loop-p-test.true, c.requires.4)) in
+    elim c.if-many-ne0.branch
+    [ then-many-ne0 w ↦ rw w.out-is (rw length-set c.loop-p.invariant.0, past, λ r. placed-more _ _ _ _ _ _ c.requires.4 c.requires.2 _ _ (c.loop-p.invariant.2 r) c.loop-p.invariant.1 c.loop-p-test.true _ c.gathered-many.ensures (omega (arith, c.requires.4, c.requires.0, c.loop-p.invariant.0, c.loop-p-test.true)) _ (w.unite_by.ensures r))
+    | else-many-ne0 w ↦ rw w.out-is (c.loop-p.invariant.0, past, λ r. placed-skips _ _ _ _ _ _ c.requires.4 c.requires.2 _ _ (c.loop-p.invariant.2 r) c.loop-p.invariant.1 c.loop-p-test.true _ c.gathered-many.ensures w.if-many-ne0.false) ]
 
 pub shape_of-out : goal.shape_of-out
 shape_of-out c = c.loop-p.invariant.0
