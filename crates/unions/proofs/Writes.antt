@@ -93,8 +93,8 @@ module _ (el : List ℕ) (g : PushdownGame) (n heads : ℕ) (states : List ℕ) 
       (λ z m. (later b z m, m)))
 
   -- two letters
-  pub sets_of : (letters h : ℕ) → letters ≡ g.letters → b < g.letters → h ≡ q * letters + b → Sets el n (h * n) all new
-  sets_of letters h lt lb eh y l k =
+  pub sets-row : (letters h : ℕ) → letters ≡ g.letters → b < g.letters → h ≡ q * letters + b → Sets el n (h * n) all new
+  sets-row letters h lt lb eh y l k =
       let e : h ≡ q * g.letters + b = eh ∙ ap (λ (l : ℕ). q * l + b) lt in
       ⊎_elim (λ m. ((pool.hold q b lq lb).from y l (subst (λ (f : ℕ). holds all (f * n) y ≡ true) e m)).0)
       (λ m. ((growth.grew q b lq lb).from y l (subst (λ (f : ℕ). holds new (f * n) y ≡ true) e m)).0) k

@@ -3,6 +3,7 @@ use mathlib.Core.Logic.{⊎_elim}
 use Rattle.game.specs.LowestLaws.{cleared-falls}
 use Rattle.unions.proofs.Naming.{naming-starts, naming-first, naming-later, naming-ends}
 use Rattle.unions.proofs.elements.number_states.Goals as goal
+use Rattle.unions.proofs.elements.number_states.Goals.{then-count-lt10, else-count-lt10}
 
 pub loop-rest-init : goal.loop-rest-init
 loop-rest-init c = naming-starts _
@@ -35,7 +36,10 @@ pub loop-rest-smaller : goal.loop-rest-smaller
 loop-rest-smaller c = cleared-falls _ (omega (arith, c.loop-rest-test.true))
 
 pub loop-rest-preserved : goal.loop-rest-preserved
-loop-rest-preserved c = ⊎_elim (λ w. naming-first _ _ _ (omega (arith, c.loop-rest-test.true)) c.lowest_state-s.ensures _ _ _ c.loop-rest.invariant _ _ w.0.taken w.1 w.2) (λ w. naming-later _ _ _ (omega (arith, c.loop-rest-test.true)) c.lowest_state-s.ensures _ _ _ c.loop-rest.invariant _ _ w.0.left w.1 w.2) c.if-count-lt10.branch
+loop-rest-preserved c =
+    elim c.if-count-lt10.branch
+    [ then-count-lt10 w ↦ naming-first _ _ _ (omega (arith, c.loop-rest-test.true)) c.lowest_state-s.ensures _ _ _ c.loop-rest.invariant _ _ w.if-count-lt10.true w.states-is w.numbers-is
+    | else-count-lt10 w ↦ naming-later _ _ _ (omega (arith, c.loop-rest-test.true)) c.lowest_state-s.ensures _ _ _ c.loop-rest.invariant _ _ w.if-count-lt10.false w.states-is w.numbers-is ]
 
 pub returns : goal.returns
 returns c =

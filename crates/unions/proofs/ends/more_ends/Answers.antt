@@ -2,7 +2,7 @@ use Prim.Native.Nat.{◌+◌, ◌*◌}
 use native.Mathlib.Omega.{arith}
 use mathlib.Core.Path.{refl}
 use Rattle.unions.proofs.Making.{within-area}
-use Rattle.unions.proofs.Writes.{ends-none, ends-one, ends-two, sets_of, still-small}
+use Rattle.unions.proofs.Writes.{ends-none, ends-one, ends-two, sets-row, still-small}
 use Rattle.unions.specs.PlaceLaws.{place-small}
 use Rattle.unions.proofs.ends.more_ends.Goals as goal
 
@@ -45,7 +45,7 @@ add_runs-requires c = (c.requires.0, c.requires.1, c.requires.2, c.requires.3, c
 pub returns : goal.returns
 returns c =
     record
-    { by_index = (λ el g old es i ra lt lq few growth listed none pool. (let r = c.add_runs.ensures.by_index el g es ra lt (sets_of _ _ _ _ _ _ _ _ _ _ _ _ _ _ _ _ pool growth _ _ c.args.c lq _ _ lt (omega (arith, lt, c.requires.8)) refl) pool in (r.0, ends-two _ _ _ _ _ _ _ _ _ _ _ _ _ _ _ _ pool growth _ _ _ lq _ _ _ _ _ c.if-written-eq0.false c.if-written-eq1.false few lt (omega (arith, lt, c.requires.8)) (omega (arith, lt, c.requires.1)) refl none r.1)))
+    { by_index = (λ el g old es i ra lt lq few growth listed none pool. (let r = c.add_runs.ensures.by_index el g es ra lt (sets-row _ _ _ _ _ _ _ _ _ _ _ _ _ _ _ _ pool growth _ _ c.args.c lq _ _ lt (omega (arith, lt, c.requires.8)) refl) pool in (r.0, ends-two _ _ _ _ _ _ _ _ _ _ _ _ _ _ _ _ pool growth _ _ _ lq _ _ _ _ _ c.if-written-eq0.false c.if-written-eq1.false few lt (omega (arith, lt, c.requires.8)) (omega (arith, lt, c.requires.1)) refl none r.1)))
     ; upper_bound = c.add_runs.ensures.upper_bound
     ; more_len_unchanged = c.add_runs.ensures.more_len_unchanged
     ; all_len_unchanged = c.add_runs.ensures.all_len_unchanged
