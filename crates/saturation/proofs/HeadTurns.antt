@@ -28,7 +28,7 @@ pub no_more : {count r : ℕ} {nexts rest : List ℕ} → Chain count nexts r re
 no_more (ended h) l = refl
 no_more (linked h c) l = absurd (omega arith)
 
-pub chain-below : {count r : ℕ} {nexts rest : List ℕ} → Chain count nexts r rest → (s : ℕ) → s ∈ rest → s < count
+pub chain-below : {count : ℕ} {nexts : List ℕ} {r : ℕ} {rest : List ℕ} → Chain count nexts r rest → (s : ℕ) → s ∈ rest → s < count
 chain-below (ended h) s m = absurd (Memᴰ.not-nil m)
 chain-below {count} (linked {r = r} h c) s m = ⊎_elim (λ (e : s ≡ r). subst (λ (i : ℕ). i < count) (sym e) h) (λ i. chain-below c s i) (Memᴰ.cases_cons m)
 

@@ -23,5 +23,5 @@ pub returns : goal.returns
 returns c =
     record
     { by_index = λ i l. c.loop-i.invariant.done i (omega (arith, c.loop-i-test.false, c.loop-i.invariant.long))
-    ; list_len_unchanged = same_length c
+    ; list_len_unchanged = c.loop-i.invariant.long
     }

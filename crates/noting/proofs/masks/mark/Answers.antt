@@ -4,6 +4,7 @@ use Rattle.game.specs.ListLaws.{not-false}
 use Rattle.noting.proofs.Marking.{head_small, head-place, marks-none, marks-more, marks-less, marks-all}
 use Rattle.unions.specs.PlaceLaws.{row_small}
 use Rattle.noting.proofs.masks.mark.Goals as goal
+use Rattle.noting.proofs.masks.mark.Goals.{then-not-is_empty_at, else-not-is_empty_at}
 
 pub loop-k-init : goal.loop-k-init
 loop-k-init c = marks-none _ _ _ _ _ _
@@ -33,7 +34,10 @@ pub loop-k-smaller : goal.loop-k-smaller
 loop-k-smaller c = omega (arith, c.loop-k-test.true)
 
 pub loop-k-preserved : goal.loop-k-preserved
-loop-k-preserved c = ⊎_elim (λ w. marks-more _ _ _ _ _ _ _ _ c.loop-k.invariant c.loop-k-test.true c.requires.1 _ w.1) (λ w. marks-less _ _ _ _ _ _ _ _ c.loop-k.invariant c.loop-k-test.true c.requires.1 _ w.1 _ c.number_of.ensures.0 (c.is_empty_at.ensures (not-false _ w.0.left))) c.if-not-is_empty_at.branch
+loop-k-preserved c =
+    elim c.if-not-is_empty_at.branch
+    [ then-not-is_empty_at w ↦ marks-more _ _ _ _ _ _ _ _ c.loop-k.invariant c.loop-k-test.true c.requires.1 _ w.set-is
+    | else-not-is_empty_at w ↦ marks-less _ _ _ _ _ _ _ _ c.loop-k.invariant c.loop-k-test.true c.requires.1 _ w.set-is _ c.number_of.ensures.0 (c.is_empty_at.ensures w.if-not-is_empty_at.false) ]
 
 pub returns : goal.returns
 returns c =

@@ -5,6 +5,7 @@ use mathlib.Core.Logic.{⊎_elim}
 use Rattle.noting.proofs.Giving.{giving-starts, giving-full, giving-on, giving-none, giving-skips, giving-ends}
 use Rattle.unions.specs.PlaceLaws.{place-small}
 use Rattle.noting.proofs.offers.offer.Goals as goal
+use Rattle.noting.proofs.offers.offer.Goals.{then-word-ne0+else-size-entries, else-word-ne0}
 
 pub loop-j-init : goal.loop-j-init
 loop-j-init c = giving-starts _ _ _ _ _ _ _ _ _ _ _ c.requires.1
@@ -103,7 +104,10 @@ pub loop-j-smaller : goal.loop-j-smaller
 loop-j-smaller c = omega (arith, c.loop-j-test.true)
 
 pub loop-j-preserved : goal.loop-j-preserved
-loop-j-preserved c = ⊎_elim (λ w. rw (w.7, w.8, w.9) (giving-on _ _ _ _ _ _ _ _ _ _ _ _ _ _ _ _ c.loop-j.invariant c.loop-j-test.true (omega (arith, c.requires.8, c.loop-j.invariant.areas)) c.unseen-word.ensures _ _ w.2.ensures.0 _ w.5.left w.2.ensures.1.1 refl (simp length-set))) (λ w. rw (w.1, w.2, w.3) (giving-none _ _ _ _ _ _ _ _ _ _ _ _ _ _ _ _ c.loop-j.invariant c.loop-j-test.true (omega (arith, c.requires.8, c.loop-j.invariant.areas)) c.unseen-word.ensures w.0.left)) c.if-word-ne0.branch
+loop-j-preserved c =
+    elim c.if-word-ne0.branch
+    [ then-word-ne0+else-size-entries w ↦ rw (w.added-is, w.log-is, w.entries-is) (giving-on _ _ _ _ _ _ _ _ _ _ _ _ _ _ _ _ c.loop-j.invariant c.loop-j-test.true (omega (arith, c.requires.8, c.loop-j.invariant.areas)) c.unseen-word.ensures _ _ w.note_word-entries.ensures.by_index _ w.if-size-entries.false w.note_word-entries.ensures.log_len_unchanged refl (simp length-set))
+    | else-word-ne0 w ↦ rw (w.added-is, w.log-is, w.entries-is) (giving-none _ _ _ _ _ _ _ _ _ _ _ _ _ _ _ _ c.loop-j.invariant c.loop-j-test.true (omega (arith, c.requires.8, c.loop-j.invariant.areas)) c.unseen-word.ensures w.if-word-ne0.false) ]
 
 pub shape_of-added : goal.shape_of-added
 shape_of-added c = c.loop-j.invariant.areas

@@ -49,12 +49,12 @@ pub overflow_add-p : goal.overflow_add-p
 overflow_add-p c = omega (arith, head-low c.args.letters c.byte_of-p.ensures c.byte_of-a.ensures (c.requires.0.headed c.args.r c.requires.6), c.requires.0.fits.few)
 
 pub give-direct-requires : goal.give-direct-requires
-give-direct-requires c = (c.requires.0.noting, c.requires.1, c.requires.0.most, c.requires.0.fits.words, head-in-all c.requires.0 (c.byte_of.result * c.args.letters + c.byte_of-then-is_direct.result) (length c.args.new.now) (omega (arith, row_low c.args.letters c.byte_of.ensures (c.requires.0.ruled c.args.r c.requires.6).row, c.byte_of-then-is_direct.ensures, (c.requires.0.ruled c.args.r c.requires.6).above)) c.requires.0.alike, place-small (c.byte_of.result * c.args.letters + c.byte_of-then-is_direct.result) c.args.n (omega (arith, row_low c.args.letters c.byte_of.ensures (c.requires.0.ruled c.args.r c.requires.6).row, c.byte_of-then-is_direct.ensures, (c.requires.0.ruled c.args.r c.requires.6).above, c.requires.0.fits.few)) c.requires.0.fits.words, omega (arith, head-low c.args.letters c.byte_of.ensures c.byte_of-a.ensures (c.requires.0.headed c.args.r c.requires.6), c.requires.0.fits.few), head-in-all c.requires.0 (c.byte_of.result * c.args.letters + c.byte_of-a.result) (length c.args.all.now) (head-low c.args.letters c.byte_of.ensures c.byte_of-a.ensures (c.requires.0.headed c.args.r c.requires.6)) refl, head-in-added c.requires.0 (c.byte_of.result * c.args.letters + c.byte_of-a.result) (head-low c.args.letters c.byte_of.ensures c.byte_of-a.ensures (c.requires.0.headed c.args.r c.requires.6)), omega (arith, c.byte_of.ensures, (c.requires.0.owned c.args.r c.requires.6).0, c.requires.5), omega (arith, c.byte_of-a.ensures, (c.requires.0.owned c.args.r c.requires.6).1))
+give-direct-requires c = (c.requires.0.noting, c.requires.1, c.requires.0.most, c.requires.0.fits.words, head-in-all c.requires.0 (c.byte_of.result * c.args.letters + c.byte_of-then-is_direct.result) (length c.args.new.now) (omega (arith, row_low c.args.letters c.byte_of.ensures (c.requires.0.ruled c.args.r c.requires.6).row, c.byte_of-then-is_direct.ensures, (c.requires.0.ruled c.args.r c.requires.6).above)) c.requires.0.alike, place-small (c.byte_of.result * c.args.letters + c.byte_of-then-is_direct.result) c.args.n (omega (arith, row_low c.args.letters c.byte_of.ensures (c.requires.0.ruled c.args.r c.requires.6).row, c.byte_of-then-is_direct.ensures, (c.requires.0.ruled c.args.r c.requires.6).above, c.requires.0.fits.few)) c.requires.0.fits.words, omega (arith, head-low c.args.letters c.byte_of-p.ensures c.byte_of-a.ensures (c.requires.0.headed c.args.r c.requires.6), c.requires.0.fits.few), head-in-all c.requires.0 (c.byte_of-p.result * c.args.letters + c.byte_of-a.result) (length c.args.all.now) (head-low c.args.letters c.byte_of-p.ensures c.byte_of-a.ensures (c.requires.0.headed c.args.r c.requires.6)) refl, head-in-added c.requires.0 (c.byte_of-p.result * c.args.letters + c.byte_of-a.result) (head-low c.args.letters c.byte_of-p.ensures c.byte_of-a.ensures (c.requires.0.headed c.args.r c.requires.6)), omega (arith, c.byte_of-p.ensures, (c.requires.0.owned c.args.r c.requires.6).0, c.requires.5), omega (arith, c.byte_of-a.ensures, (c.requires.0.owned c.args.r c.requires.6).1))
 
 pub returns-then-is_direct : goal.returns-then-is_direct
 returns-then-is_direct c =
     record
-    { by_index = (λ el g old es i now gr to. eloises-gives gr c.args.r c.requires.6 to to.pool (direct gr c.args.r c.requires.6 c.byte_of.ensures c.byte_of-then-is_direct.ensures (c.is_direct.ensures c.if-is_direct.true).1) c.byte_of.ensures c.byte_of-a.ensures refl c.first_of-first.ensures (c.is_direct.ensures c.if-is_direct.true).0 c.give-direct.ensures.by_index)
+    { by_index = (λ el g old es i now gr to. eloises-gives gr c.args.r c.requires.6 to to.pool (direct gr c.args.r c.requires.6 c.byte_of.ensures c.byte_of-then-is_direct.ensures (c.is_direct.ensures c.if-is_direct.true).1) c.byte_of-p.ensures c.byte_of-a.ensures refl c.first_of-first.ensures (c.is_direct.ensures c.if-is_direct.true).0 c.give-direct.ensures.by_index)
     ; entries_bound = (c.give-direct.ensures.upper_bound, c.requires.2)
     ; all_len_unchanged = refl
     ; keys_len_unchanged = refl
