@@ -145,10 +145,6 @@ small-area heads n l m = mul-le-mul l m
 pub small-heads : (states letters : ℕ) → states ≤ 32 → letters ≤ 64 → states * letters ≤ 2048
 small-heads states letters l m = mul-le-mul l m
 
--- the length of an array that a struct has
-pub field-length : (k : ℕ) (xs : List ℕ) → length (map (λ (v : ℕ). v) xs) ≡ k → k ≡ length xs
-field-length k xs e = omega (arith, e, length-map xs (λ (v : ℕ). v))
-
 -- one number more of a list is below a limit
 pub below_more : (list : List ℕ) (limit i : ℕ) → ((j : ℕ) → j < i → get_or list j 0 < limit) → get_or list i 0 < limit → (j : ℕ) → j < i + 1 → get_or list j 0 < limit
 below_more list limit i all one j l =

@@ -95,12 +95,12 @@ told-some (Eloise rule b) v e = (refl, ap is_lost (done-same e))
 told-some (Abelard b) v e = (refl, ap is_lost (done-same e))
 told-some (JudgeRefused q k) v e = absurd (let z : ◌≡◌ {A = ℕ} 0 1 = cc in omega arith)
 
-is_lost : (x : Answered) (n : ℕ) → judged x ≡ done (lost n) → x ≡ Lost n
-is_lost (Lost rule) n e = cc
-is_lost Target n e = absurd (let z : ◌≡◌ {A = ℕ} 0 1 = cc in omega arith)
-is_lost (Eloise rule b) n e = absurd (let z : ◌≡◌ {A = ℕ} 0 1 = cc in omega arith)
-is_lost (Abelard b) n e = absurd (let z : ◌≡◌ {A = ℕ} 0 1 = cc in omega arith)
-is_lost (JudgeRefused q k) n e = absurd (let z : ◌≡◌ {A = ℕ} 0 1 = cc in omega arith)
+is-lost : (x : Answered) (n : ℕ) → judged x ≡ done (lost n) → x ≡ Lost n
+is-lost (Lost rule) n e = cc
+is-lost Target n e = absurd (let z : ◌≡◌ {A = ℕ} 0 1 = cc in omega arith)
+is-lost (Eloise rule b) n e = absurd (let z : ◌≡◌ {A = ℕ} 0 1 = cc in omega arith)
+is-lost (Abelard b) n e = absurd (let z : ◌≡◌ {A = ℕ} 0 1 = cc in omega arith)
+is-lost (JudgeRefused q k) n e = absurd (let z : ◌≡◌ {A = ℕ} 0 1 = cc in omega arith)
 
 is-target : (x : Answered) → judged x ≡ done target → x ≡ Target
 is-target (Lost rule) e = absurd (let z : ◌≡◌ {A = ℕ} 0 1 = cc in omega arith)
@@ -196,8 +196,8 @@ demands file t w answer table work promise judge judges entries rounds e =
       lost_abelards =
           λ p a rest f short l o.
           let r = (losts p a rest f short l).abelards o in
-          (r.0, is_lost (judge (p ∷ a ∷ rest)) (suc r.0.rule.number) (judges (p ∷ a ∷ rest) ∙ r.1));
+          (r.0, is-lost (judge (p ∷ a ∷ rest)) (suc r.0.rule.number) (judges (p ∷ a ∷ rest) ∙ r.1));
       lost_eloises =
           λ p a rest f short l o.
-          is_lost (judge (p ∷ a ∷ rest)) 0 (judges (p ∷ a ∷ rest) ∙ (losts p a rest f short l).eloises o);
+          is-lost (judge (p ∷ a ∷ rest)) 0 (judges (p ∷ a ∷ rest) ∙ (losts p a rest f short l).eloises o);
     }

@@ -1,3 +1,4 @@
+use mathlib.Core.List.{[]}
 use native.Mathlib.Omega.{arith}
 use mathlib.Core.Path.{refl, sym, ◌∙◌}
 use mathlib.Core.Logic.{⊎_elim}
@@ -24,13 +25,13 @@ pub mark_rules-requires : goal.mark_rules-requires
 mark_rules-requires c = (let b = bounded c.requires.0.1 in (b.rules-few, b.rules-fit, refl, λ r l. (let f = rule_fits c.requires.0.1 r l _ c.requires.3 in (f.state, omega (arith, f.above, b.letters-few), omega (arith, f.below, b.letters-few)))))
 
 pub slice_bounds-rounds_on-end-4 : goal.slice_bounds-rounds_on-end-4
-slice_bounds-rounds_on-end-4 c = sym c.raising_table-raising.type-inv.1.0.1
+slice_bounds-rounds_on-end-4 c = sym c.raising_table-raising.type_inv.1.0.1
 
 pub slice_bounds-rounds_on-end-5 : goal.slice_bounds-rounds_on-end-5
 slice_bounds-rounds_on-end-5 c = sym c.note_targets-first.ensures.news_len_unchanged
 
 pub rounds_on-requires : goal.rounds_on-requires
-rounds_on-requires c = (let b = bounded c.requires.0.1 in (areas-of c.requires.0.1 c.requires.3 c.requires.4 (rooms-on c.requires.5 c.note_targets-first.ensures.all_len_unchanged c.note_targets-first.ensures.len_unchanged) (omega (arith, c.raising_table-raising.type-inv.1.0.1)) c.set_masks.ensures.fresh_len_unchanged c.set_masks.ensures.alive_len_unchanged (c.set_masks.ensures.by_index_2 (λ k l. zeros-small 64 k)) (omega (arith, c.requires.1, c.note_targets-first.ensures.log_len_unchanged)) (omega (arith, c.requires.2)), omega (arith, c.if-size-first.false), b.controls, more_rows c.requires.0.1 c.requires.3, omega (arith, c.requires.6, c.link.ensures.firsts_len_unchanged), omega (arith, c.link.ensures.nexts_len_unchanged), c.link.ensures.climbs, b.lower, b.states-few, omega (arith, c.requires.3), c.note_targets-first.ensures.news_len_unchanged, c.mark_rules.ensures.readers_len_unchanged))
+rounds_on-requires c = (let b = bounded c.requires.0.1 in (areas-of c.requires.0.1 c.requires.3 c.requires.4 (rooms-on c.requires.5 c.note_targets-first.ensures.all_len_unchanged c.note_targets-first.ensures.len_unchanged) (omega (arith, c.raising_table-raising.type_inv.1.0.1)) c.set_masks.ensures.fresh_len_unchanged c.set_masks.ensures.alive_len_unchanged (c.set_masks.ensures.by_index_2 (λ k l. zeros-small 64 k)) (omega (arith, c.requires.1, c.note_targets-first.ensures.log_len_unchanged)) (omega (arith, c.requires.2)), omega (arith, c.if-size-first.false), b.controls, more_rows c.requires.0.1 c.requires.3, omega (arith, c.requires.6, c.link.ensures.firsts_len_unchanged), omega (arith, c.link.ensures.nexts_len_unchanged), c.link.ensures.climbs, b.lower, b.states-few, omega (arith, c.requires.3), c.note_targets-first.ensures.news_len_unchanged, c.mark_rules.ensures.readers_len_unchanged))
 
 pub shape_of-table : goal.shape_of-table
 shape_of-table c = c.table-2-1.given
