@@ -16,7 +16,7 @@ use Rattle.table.specs.Table.{Entry, entries_of, is_eloise, is_rule_of, table_fo
 use Rattle.game.specs.ListLaws.{◌∈◌, test}
 use Rattle.game.specs.SetLaws.{has-from}
 use Rattle.table.specs.FormLaws.{InForm}
-use Rattle.judge.specs.Worth.{automaton, base_weight, entry_worth, step_worth, worths, worth, advice_at, entry_of_head}
+use Rattle.judge.specs.Worth.{automaton, base_weight, entry_worth, step_worth, worths, advice_at, entry_of_head}
 use Rattle.judge.specs.Within.{AtMost, exact, most-of, Within, worth-within, entry-within}
 use Rattle.judge.specs.Range.{WeightsUpTo, base_weight-mono}
 use Rattle.judge.specs.Target.{head-is, zero-or-more, weight-zero}

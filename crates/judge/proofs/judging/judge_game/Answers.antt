@@ -36,6 +36,11 @@ bounds-position-0 c =
     let shaped = sym c.position_form-shaped.ensures ∙ ap said c.in-Done-shaped.is in
     omega (arith, (in_bytes _ _ c.args.position.now shaped).many)
 
+pub slice_bounds-verdict_on-start : goal.slice_bounds-verdict_on-start
+slice_bounds-verdict_on-start c =
+    let shaped = sym c.position_form-shaped.ensures ∙ ap said c.in-Done-shaped.is in
+    omega (arith, (in_bytes _ _ c.args.position.now shaped).many)
+
 pub slice_bounds-verdict_on-count : goal.slice_bounds-verdict_on-count
 slice_bounds-verdict_on-count c =
     let shaped = sym c.position_form-shaped.ensures ∙ ap said c.in-Done-shaped.is in

@@ -1,5 +1,4 @@
 use mathlib.Core.Path.{◌∙◌}
-use borrow.Author.Rules.{rules}
 use Rattle.game.specs.Stored.{rule_at}
 use Rattle.judge.proofs.LostRules.{none_written, one_written, two-written}
 use Rattle.judge.proofs.losing.is_successor_lost.Goals as goal
