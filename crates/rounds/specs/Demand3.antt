@@ -3,7 +3,7 @@
 use Rattle.std.specs.Prelude.{ℕ, suc, ◌+◌, ◌<◌, ◌≤◌, ◌≡◌, ◌↔◌, true, false, List, ◌∷◌, length}
 use Rattle.std.proofs.Common.{arith, ◌∙◌, ⊎_elim}
 use Rattle.std.proofs.Math.Path.{sym, ap}
-use Rattle.std.proofs.Math.Option.{none, some}
+use Rattle.std.proofs.Math.Option.{some}
 use borrow.Author.Tests.{eq-eqb, ne_eqb}
 use Rattle.game.specs.Limits.{max_stack}
 use Rattle.game.specs.Game.{PushdownGame}

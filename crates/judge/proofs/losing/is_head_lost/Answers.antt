@@ -20,7 +20,7 @@ returns-then-not-is_of_head c =
     let away = told x.table.now at-loop.i x.q x.a _ c.at-entry.ensures _ c.is_of_head.ensures _ (c.if-not-is_of_head.true) in
     open-lost x.q x.a x.lost _
     (stops _ c.requires _ _ (open_number x.q x.a x.lost) (open-away x.q x.a x.lost) at-loop.i _ at-loop.invariant (omega arith)
-    (λ k. (c.shared_slice_known-1.given k).fits)
+    (λ k. (c.type_inv.table k).fits)
     c.loop-i-test.true
     away)
 

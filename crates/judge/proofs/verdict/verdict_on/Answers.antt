@@ -44,7 +44,7 @@ returns c =
     let below = c.worths-below.ensures in
     let bound = found asked below c.head_worth-bound.ensures in
     let bounded = c.if-bound.false in
-    let known = c.shared_slice_known-2-1.given in
+    let known = c.type_inv.table in
     let least = rule-least asked below (λ k. (known k).fits) (strict h bound bounded) c.least_rule-field.ensures in
     is-eloise h bound bounded c.if-bound-eq0.false c.has_state.ensures c.if-has_state.false least c.rule_number.ensures
     (field-small _ (λ k. (known k).fits))

@@ -16,7 +16,7 @@ at-entry-requires c = omega (arith, c.loop-i-test.true)
 pub returns-then-not-is_of_head : goal.returns-then-not-is_of_head
 returns-then-not-is_of_head c =
     stops _ c.requires.2 _ _ (head_number c.args.q c.args.a c.args.states c.args.below.now) (worth-away c.args.q c.args.a c.args.states c.args.below.now) c.loop-i.i _ c.loop-i.invariant (omega arith)
-    (λ k. (c.shared_slice_known-1.given k).fits)
+    (λ k. (c.type_inv.table k).fits)
     c.loop-i-test.true
     (told c.args.table.now c.loop-i.i c.args.q c.args.a _ c.at-entry.ensures _ c.is_of_head.ensures _ (c.if-not-is_of_head.true))
 
