@@ -305,7 +305,8 @@ module _ (g : PushdownGame) (old : List Entry) (birthdate n : ℕ) (job : Job) (
               entered = w.entered;
               deep = omega (arith, w.deep);
               stacked =
-                  rw w.deep (
+                  subst (λ (d : ℕ). Stacked g old birthdate n job rules work r (set lefts d left) (set unions d u) (set nexts d (found + 1)) (set limits d limit) (top (found + 1) ∷ w.waiting))
+                  (sym w.deep) (
                     record {
                       left = get_or-set_same lefts (length w.waiting) left 0 (omega (arith, w.deep));
                       union = get_or-set_same unions (length w.waiting) u 0 (omega (arith, w.deep));

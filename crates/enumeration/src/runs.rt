@@ -61,7 +61,7 @@ pub fn tag_of(state: u8, letter: u8, r: usize) -> u32
 // One run for each rule of the job from place `from` on, united with what was passed. Here and below `late` is 0 where an entry of
 // the last round was passed; otherwise an entry is older if its first word is below `late`, and what older entries alone give from
 // here on is in the table already.
-#[cycle(pass_states_rules_after_rules_by_rules_from_runs_with)]
+#[cycle(runs)]
 pub fn rules_from(
     job: Job,
     rules: &[u8],
@@ -127,7 +127,7 @@ pub fn rules_from(
 }
 
 // The same from rule r on, which is listed: the ends of its runs one after another. What older entries give is not left out.
-#[cycle(pass_states_rules_after_rules_by_rules_from_runs_with)]
+#[cycle(runs)]
 fn rules_by(
     job: Job,
     rules: &[u8],
@@ -182,7 +182,7 @@ fn rules_by(
 }
 
 // The runs of rule r that begin with entry i of the old round.
-#[cycle(pass_states_rules_after_rules_by_rules_from_runs_with)]
+#[cycle(runs)]
 pub fn runs_with(
     job: Job,
     rules: &[u8],
@@ -253,7 +253,7 @@ pub fn runs_with(
 
 // Rule r is passed, with a union in hand: the job's later rules, unless the memo has it, or no entry of the last round is on the way
 // and none can come.
-#[cycle(pass_states_rules_after_rules_by_rules_from_runs_with)]
+#[cycle(runs)]
 pub fn rules_after(
     job: Job,
     rules: &[u8],
@@ -312,7 +312,7 @@ pub fn rules_after(
 // next entry to take, and `late` for the way to it; the highest state left is passed by each of its transitions in turn, and a
 // transition that is not passed over opens the level of the states below. The levels above the last one wait in four arrays: there
 // are no more than states.
-#[cycle(pass_states_rules_after_rules_by_rules_from_runs_with)]
+#[cycle(runs)]
 fn pass_states(
     job: Job,
     rules: &[u8],
