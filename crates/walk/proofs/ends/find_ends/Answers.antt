@@ -1,4 +1,5 @@
 use native.Mathlib.Omega.{arith}
+use mathlib.Core.List.{[]}
 use mathlib.Core.Path.{refl, ◌∙◌}
 use Rattle.rounds.specs.Growing.{partly}
 use Rattle.enumeration.specs.NextLaws.{begins-nothing}

@@ -33,7 +33,7 @@ pub loop-r-smaller : goal.loop-r-smaller
 loop-r-smaller c = omega (arith, c.next_rule-r-in-loop-r.ensures.after, c.loop-r-test.true)
 
 pub loop-r-preserved : goal.loop-r-preserved
-loop-r-preserved c = let next = c.next_rule-r-in-loop-r.ensures in let more = c.list_rule-room.ensures.upper_bound in let long = c.list_rule-room.ensures.TAIL2 in (long.1.1.0 ∙ c.loop-r.invariant.0, long.1.1.1 ∙ c.loop-r.invariant.1, long.0 ∙ c.loop-r.invariant.2, long.1.0 ∙ c.loop-r.invariant.3, more.0, next.within, next.found, more.2 c.loop-r.invariant.7, more.3 c.loop-r.invariant.8, more.1 c.loop-r.invariant.9, λ g old b stands pl ag. c.list_rule-room.ensures.listed g old b stands pl ag (c.loop-r.invariant.6 c.loop-r-test.true) c.loop-r.invariant.7 c.loop-r.invariant.8 c.loop-r.invariant.9 (c.loop-r.invariant.10 g old b stands pl ag))
+loop-r-preserved c = let next = c.next_rule-r-in-loop-r.ensures in let more = c.list_rule-room.ensures.upper_bound in let left = c.list_rule-room.ensures in (left.lists_len_unchanged ∙ c.loop-r.invariant.0, left.spans_len_unchanged ∙ c.loop-r.invariant.1, left.sets_len_unchanged ∙ c.loop-r.invariant.2, left.memo_len_unchanged ∙ c.loop-r.invariant.3, more.0, next.within, next.found, more.2 c.loop-r.invariant.7, more.3 c.loop-r.invariant.8, more.1 c.loop-r.invariant.9, λ g old b stands pl ag. c.list_rule-room.ensures.listed g old b stands pl ag (c.loop-r.invariant.6 c.loop-r-test.true) c.loop-r.invariant.7 c.loop-r.invariant.8 c.loop-r.invariant.9 (c.loop-r.invariant.10 g old b stands pl ag))
 
 pub shape_of-lists : goal.shape_of-lists
 shape_of-lists c = c.loop-r.invariant.0

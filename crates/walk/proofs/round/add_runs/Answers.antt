@@ -18,19 +18,19 @@ use Rattle.walk.proofs.Nest.{list-turn, run-turn, runs_done, job-turn, head-turn
 use Rattle.walk.proofs.round.add_runs.Goals as goal
 
 pub overflow_cast-letters : goal.overflow_cast-letters
-overflow_cast-letters c = omega (arith, c.struct_known-1.given)
+overflow_cast-letters c = omega arith
 
 pub overflow_cast-heads : goal.overflow_cast-heads
-overflow_cast-heads c = omega (arith, c.struct_known-2-1.given)
+overflow_cast-heads c = omega arith
 
 pub overflow_mul-heads : goal.overflow_mul-heads
-overflow_mul-heads c = omega (arith, few-heads _ c.args.sizes.letters c.requires.0.control (omega (arith, c.struct_known-1.given)))
+overflow_mul-heads c = omega (arith, few-heads _ c.args.sizes.letters c.requires.0.control (omega arith))
 
 pub round-init : goal.round-init
 round-init c = (refl, refl, starts _ _ _ _ _ _ _ _ _ _ _ _ _, c.requires.4, c.requires.5, λ g es n h marked. listed-none g es _ _ c.requires.6)
 
 pub overflow_mul-heads-in-round : goal.overflow_mul-heads-in-round
-overflow_mul-heads-in-round c = omega (arith, few-heads _ c.args.sizes.letters c.requires.0.control (omega (arith, c.struct_known-1.given)))
+overflow_mul-heads-in-round c = omega (arith, few-heads _ c.args.sizes.letters c.requires.0.control (omega arith))
 
 pub nonzero_rem-head : goal.nonzero_rem-head
 nonzero_rem-head c = omega (arith, c.round-test.true)
@@ -45,7 +45,7 @@ pub nonzero_rem-a : goal.nonzero_rem-a
 nonzero_rem-a c = c.requires.1
 
 pub overflow_cast-a : goal.overflow_cast-a
-overflow_cast-a c = omega (arith, c.struct_known-1.given, (head_at c.args.sizes.control c.args.sizes.letters (c.round.turn % (c.args.sizes.control * c.args.sizes.letters)) c.requires.1 (mod-lt c.round.turn (omega (arith, c.round-test.true)))).1)
+overflow_cast-a c = omega (arith, (head_at c.args.sizes.control c.args.sizes.letters (c.round.turn % (c.args.sizes.control * c.args.sizes.letters)) c.requires.1 (mod-lt c.round.turn (omega (arith, c.round-test.true)))).1)
 
 pub first_rule-r-requires : goal.first_rule-r-requires
 first_rule-r-requires c = (c.requires.0.fit, c.requires.0.few)
@@ -90,7 +90,7 @@ pub loop-r-preserved : goal.loop-r-preserved
 loop-r-preserved c = let next = c.next_rule-r.ensures in let at = at-rule _ _ _ _ _ (c.round.turn % (c.args.sizes.control * c.args.sizes.letters)) c.loop-r.r _ _ c.requires.1 (mod-lt c.round.turn (omega (arith, c.round-test.true))) c.loop-r-test.true c.loop-r.invariant.3 c.job_of-job.ensures.value c.job_of-job.ensures.settled_from refl in let added = runs_done _ _ _ _ _ _ _ _ c.requires.3 _ _ _ _ _ at _ c.loop-i.invariant.2 _ c.runs_end-end.ensures c.loop-i-test.false in (c.loop-i.invariant.0 ∙ c.loop-r.invariant.0, c.loop-i.invariant.1 ∙ c.loop-r.invariant.1, next.within, next.found, becomes _ _ _ _ _ _ _ _ (job-turn _ _ _ _ _ _ _ _ c.requires.3 _ _ _ _ _ at c.loop-r.invariant.4 added) _ (λ g es n h. rules-next g es n _ _ _ _ _ h _ es _ _ _ _ next) _ (λ g es n h. past_next g es n _ _ _ _ _ h _ _ _ _ _ next), c.list_later.ensures.lists_len_unchanged ∙ c.loop-r.invariant.5, c.list_later.ensures.spans_len_unchanged ∙ c.loop-r.invariant.6, (list-turn _ _ _ _ _ _ _ c.args.late c.requires.3 _ _ _ _ _ at c.loop-r.invariant.7 c.list_later.ensures.listed))
 
 pub overflow_add-turn : goal.overflow_add-turn
-overflow_add-turn c = omega (arith, c.round-test.true, few-heads _ c.args.sizes.letters c.requires.0.control (omega (arith, c.struct_known-1.given)))
+overflow_add-turn c = omega (arith, c.round-test.true, few-heads _ c.args.sizes.letters c.requires.0.control (omega arith))
 
 pub round-smaller : goal.round-smaller
 round-smaller c = omega (arith, c.round-test.true)
@@ -132,7 +132,7 @@ shape_of-spans-then-size-count c = c.list_later.ensures.spans_len_unchanged ∙ 
 
 pub returns-then-size-count : goal.returns-then-size-count
 returns-then-size-count c =
-    let at = at-rule _ _ _ _ _ (c.round.turn % (c.args.sizes.control * c.args.sizes.letters)) c.loop-r.r _ _ c.requires.1 (mod-lt c.round.turn (omega (arith, c.round-test.true))) c.loop-r-test.true c.loop-r.invariant.3 c.job_of-job.ensures.value c.job_of-job.ensures.settled_from refl in let long = c.run_at-count.ensures.table_len_unchanged ∙ c.loop-i.invariant.0 ∙ c.loop-r.invariant.0 ∙ c.round.invariant.0 in let full : length c.run_at-count.new.1.1.1.1.1.0 / 3 < c.run_at-count.result = rw long c.if-size-count.true in let run = run-turn _ _ _ _ _ _ _ _ c.requires.3 _ _ _ _ _ at _ _ (list-turn _ _ _ _ _ _ _ c.args.late c.requires.3 _ _ _ _ _ at c.loop-r.invariant.7 c.list_later.ensures.listed) _ c.loop-i.invariant.2 (omega (arith, c.loop-i-test.true, runs-within _ _ _ _ _ _ _ c.runs_end-end.ensures)) c.run_at-count.ensures.finished in let job = job-turn _ _ _ _ _ _ _ _ c.requires.3 _ _ _ _ _ at c.loop-r.invariant.4 (stops _ _ _ _ _ _ _ _ run full) in let all = head-turn _ _ _ _ _ _ _ _ _ c.round.invariant.2 c.round-test.true (stops _ _ _ _ _ _ _ _ job full) in
+    let at = at-rule _ _ _ _ _ (c.round.turn % (c.args.sizes.control * c.args.sizes.letters)) c.loop-r.r _ _ c.requires.1 (mod-lt c.round.turn (omega (arith, c.round-test.true))) c.loop-r-test.true c.loop-r.invariant.3 c.job_of-job.ensures.value c.job_of-job.ensures.settled_from refl in let long = c.run_at-count.ensures.table_len_unchanged ∙ c.loop-i.invariant.0 ∙ c.loop-r.invariant.0 ∙ c.round.invariant.0 in let full : length c.run_at-count.new.table / 3 < c.run_at-count.result = rw long c.if-size-count.true in let run = run-turn _ _ _ _ _ _ _ _ c.requires.3 _ _ _ _ _ at _ _ (list-turn _ _ _ _ _ _ _ c.args.late c.requires.3 _ _ _ _ _ at c.loop-r.invariant.7 c.list_later.ensures.listed) _ c.loop-i.invariant.2 (omega (arith, c.loop-i-test.true, runs-within _ _ _ _ _ _ _ c.runs_end-end.ensures)) c.run_at-count.ensures.finished in let job = job-turn _ _ _ _ _ _ _ _ c.requires.3 _ _ _ _ _ at c.loop-r.invariant.4 (stops _ _ _ _ _ _ _ _ run full) in let all = head-turn _ _ _ _ _ _ _ _ _ c.round.invariant.2 c.round-test.true (stops _ _ _ _ _ _ _ _ job full) in
     record
     { filled = round_filled _ _ _ _ _ _ _ _ (stops _ _ _ _ _ _ _ _ all full)
     ; table_len_unchanged = long
