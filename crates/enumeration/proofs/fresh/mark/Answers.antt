@@ -10,28 +10,28 @@ use Rattle.enumeration.proofs.fresh.mark.Goals as goal
 
 pub returns-then-entry-late : goal.returns-then-entry-late
 returns-then-entry-late c =
-    record
-    { marked = λ long m. mark-older c.args.work.now c.args.fresh.now _ c.args.i m c.at-entry.result.first (ap (λ (x : EntryWords). x.first) c.at-entry.ensures) c.if-entry-late.true
-    ; fresh_len_unchanged = refl
+    record {
+      marked = λ long m. mark-older c.args.work.now c.args.fresh.now _ c.args.i m c.at-entry.result.first (ap (λ (x : EntryWords). x.first) c.at-entry.ensures) c.if-entry-late.true;
+      fresh_len_unchanged = refl;
     }
 
 pub returns-then-state-ge-MAX_STATES : goal.returns-then-state-ge-MAX_STATES
 returns-then-state-ge-MAX_STATES c =
-    record
-    { marked = λ long m. mark-none c.args.work.now c.args.fresh.now _ c.args.i m c.at-entry.result.first (ap (λ (x : EntryWords). x.first) c.at-entry.ensures) (omega (arith, c.if-state-ge-MAX_STATES.true, c.state-state.ensures))
-    ; fresh_len_unchanged = refl
+    record {
+      marked = λ long m. mark-none c.args.work.now c.args.fresh.now _ c.args.i m c.at-entry.result.first (ap (λ (x : EntryWords). x.first) c.at-entry.ensures) (omega (arith, c.if-state-ge-MAX_STATES.true, c.state-state.ensures));
+      fresh_len_unchanged = refl;
     }
 
 pub returns-then-fresh-at : goal.returns-then-fresh-at
 returns-then-fresh-at c =
-    record
-    { marked = λ long m. absurd (omega (arith, long, c.if-fresh-at.true, c.letter-at.ensures))
-    ; fresh_len_unchanged = refl
+    record {
+      marked = λ long m. absurd (omega (arith, long, c.if-fresh-at.true, c.letter-at.ensures));
+      fresh_len_unchanged = refl;
     }
 
 pub returns : goal.returns
 returns c =
-    record
-    { marked = λ long m. mark_set c.args.work.now c.args.fresh.now _ c.args.i m c.at-entry.result.first (ap (λ (x : EntryWords). x.first) c.at-entry.ensures) c.letter-at.result c.joined.result c.letter-at.ensures (omega (arith, c.if-fresh-at.false)) (c.joined.ensures (omega (arith, c.if-state-ge-MAX_STATES.false)) ∙ ap (λ (q : ℕ). union (get_or c.args.fresh.now c.letter-at.result 0) (single q)) c.state-state.ensures)
-    ; fresh_len_unchanged = search rules
+    record {
+      marked = λ long m. mark_set c.args.work.now c.args.fresh.now _ c.args.i m c.at-entry.result.first (ap (λ (x : EntryWords). x.first) c.at-entry.ensures) c.letter-at.result c.joined.result c.letter-at.ensures (omega (arith, c.if-fresh-at.false)) (c.joined.ensures (omega (arith, c.if-state-ge-MAX_STATES.false)) ∙ ap (λ (q : ℕ). union (get_or c.args.fresh.now c.letter-at.result 0) (single q)) c.state-state.ensures);
+      fresh_len_unchanged = search rules;
     }

@@ -22,7 +22,7 @@ shape_of-fresh c = c.loop-i.invariant.0
 
 pub returns : goal.returns
 returns c =
-    record
-    { marked = λ long k l. c.loop-i.invariant.1 long k (omega (arith, c.loop-i-test.false))
-    ; fresh_len_unchanged = c.loop-i.invariant.0
+    record {
+      marked = λ long k l. c.loop-i.invariant.1 long k (omega (arith, c.loop-i-test.false));
+      fresh_len_unchanged = c.loop-i.invariant.0;
     }

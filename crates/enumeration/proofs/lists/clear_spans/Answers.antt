@@ -26,7 +26,7 @@ shape_of-spans c = c.loop-i.invariant.long
 
 pub returns : goal.returns
 returns c =
-    record
-    { zero = all-cleared _ c.loop-i.i _ c.loop-i.invariant (omega (arith, c.loop-i.invariant.long))
-    ; spans_len_unchanged = c.loop-i.invariant.long
+    record {
+      zero = all-cleared _ c.loop-i.i _ c.loop-i.invariant (omega (arith, c.loop-i.invariant.long));
+      spans_len_unchanged = c.loop-i.invariant.long;
     }

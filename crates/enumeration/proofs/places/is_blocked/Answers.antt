@@ -10,9 +10,9 @@ use Rattle.enumeration.proofs.places.is_blocked.Goals as goal
 
 pub returns-then-set-eq0 : goal.returns-then-set-eq0
 returns-then-set-eq0 c =
-    record
-    { blocked = λ e some. absurd (omega (arith, some, c.if-set-eq0.true))
-    ; set_nonzero = λ e. clash refl e
+    record {
+      blocked = λ e some. absurd (omega (arith, some, c.if-set-eq0.true));
+      set_nonzero = λ e. clash refl e;
     }
 
 pub loop-left-init : goal.loop-left-init
@@ -20,9 +20,9 @@ loop-left-init c = λ k h. h
 
 pub returns-then-end_at-start_at : goal.returns-then-end_at-start_at
 returns-then-end_at-start_at c =
-    record
-    { blocked = λ e some. record { state = c.highest-q.result; member = c.loop-left.invariant _ (c.highest-q.ensures.member (omega (arith, c.loop-left-test.true))); first = c.start_at.result; last = c.end_at.result; starts = c.start_at.ensures.by_index; ends = c.end_at.ensures.by_index; none = c.if-end_at-start_at.true }
-    ; set_nonzero = λ e. clash refl e
+    record {
+      blocked = λ e some. record { state = c.highest-q.result; member = c.loop-left.invariant _ (c.highest-q.ensures.member (omega (arith, c.loop-left-test.true))); first = c.start_at.result; last = c.end_at.result; starts = c.start_at.ensures.by_index; ends = c.end_at.ensures.by_index; none = c.if-end_at-start_at.true };
+      set_nonzero = λ e. clash refl e;
     }
 
 pub overflow_cast-left : goal.overflow_cast-left
@@ -42,7 +42,7 @@ loop-left-preserved c = left-of _ _ _ c.loop-left.invariant _ (rest-is _ _ c.hig
 
 pub returns : goal.returns
 returns c =
-    record
-    { blocked = λ e. clash e refl
-    ; set_nonzero = λ e. omega (arith, c.if-set-eq0.false)
+    record {
+      blocked = λ e. clash e refl;
+      set_nonzero = λ e. omega (arith, c.if-set-eq0.false);
     }

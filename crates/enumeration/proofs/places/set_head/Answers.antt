@@ -4,7 +4,7 @@ use Rattle.enumeration.proofs.places.set_head.Goals as goal
 
 pub returns : goal.returns
 returns c =
-    record
-    { by_index = λ letters long low high few to. rw c.place_at-at.ensures (head-placed _ _ _ letters _ _ _ _ long low high few c.start_of.ensures c.end_of.ensures to)
-    ; places_len_unchanged = simp length-set
+    record {
+      by_index = λ letters long low high few to. rw c.place_at-at.ensures (head-placed _ _ _ letters _ _ _ _ long low high few c.start_of.ensures c.end_of.ensures to);
+      places_len_unchanged = simp length-set;
     }

@@ -16,7 +16,7 @@ loop-a-preserved c = (c.set_head.ensures.places_len_unchanged ∙ c.loop-a.invar
 
 pub returns : goal.returns
 returns c =
-    record
-    { placed_to = λ long low few to p b lb l. c.loop-a.invariant.2 long low few to p b lb (omega arith)
-    ; places_len_unchanged = c.loop-a.invariant.0
+    record {
+      placed_to = λ long low few to p b lb l. c.loop-a.invariant.2 long low few to p b lb (omega arith);
+      places_len_unchanged = c.loop-a.invariant.0;
     }

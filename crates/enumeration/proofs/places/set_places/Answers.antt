@@ -16,7 +16,7 @@ loop-q-preserved c = (c.set_letters.ensures.places_len_unchanged ∙ c.loop-q.in
 
 pub returns : goal.returns
 returns c =
-    record
-    { placed_to = λ long low few p b lb l. c.loop-q.invariant.2 long low few p b lb (omega arith)
-    ; places_len_unchanged = c.loop-q.invariant.0
+    record {
+      placed_to = λ long low few p b lb l. c.loop-q.invariant.2 long low few p b lb (omega arith);
+      places_len_unchanged = c.loop-q.invariant.0;
     }

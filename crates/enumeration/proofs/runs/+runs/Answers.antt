@@ -47,10 +47,10 @@ pass_states-next_open-found-requires t c = omega (arith, c.end_at-end.ensures.up
 
 pub pass_states-returns-then-depth-eq0 : goal.pass_states-returns-then-depth-eq0
 pass_states-returns-then-depth-eq0 t c =
-    record
-    { finished = λ g old b n s h pl ag li whole small past. let w = c.loop-job.invariant.3 g old b n s h pl ag li whole small past in walk_ends g old b n _ _ _ _ s _ _ _ _ _ _ _ _ _ _ _ _ _ _ w whole (within g old b n _ _ _ _ _ _ s h _ c.requires.1) _ c.highest-q.ensures _ c.tag_of-tag.ensures _ (rest-is _ _ c.highest-q.ensures) c.args.fresh.now ag c.fresh_on-new.result (c.fresh_on-new.ensures ∙ ap (λ (a : ℕ). get_or c.args.fresh.now a 0) (below-is g old b n _ _ _ _ _ _ s h _ c.requires.1)) c.older_below-passing.result c.older_below-passing.ensures _ _ c.next_open-found.ensures (omega (arith, c.next_open-found.ensures.within, c.loop-job.invariant.2.within, c.end_at-end.ensures.upper_bound)) (ends-below g old b n _ _ _ _ _ _ s h _ c.requires.1 _ pl _ _ w.fit.small w.fit.some c.highest-q.ensures _ (c.end_at-end.ensures.by_index _)) c.if-end-found.true c.if-depth-eq0.true
-    ; table_len_unchanged = c.loop-job.invariant.0
-    ; memo_len_unchanged = c.loop-job.invariant.1
+    record {
+      finished = λ g old b n s h pl ag li whole small past. let w = c.loop-job.invariant.3 g old b n s h pl ag li whole small past in walk_ends g old b n _ _ _ _ s _ _ _ _ _ _ _ _ _ _ _ _ _ _ w whole (within g old b n _ _ _ _ _ _ s h _ c.requires.1) _ c.highest-q.ensures _ c.tag_of-tag.ensures _ (rest-is _ _ c.highest-q.ensures) c.args.fresh.now ag c.fresh_on-new.result (c.fresh_on-new.ensures ∙ ap (λ (a : ℕ). get_or c.args.fresh.now a 0) (below-is g old b n _ _ _ _ _ _ s h _ c.requires.1)) c.older_below-passing.result c.older_below-passing.ensures _ _ c.next_open-found.ensures (omega (arith, c.next_open-found.ensures.within, c.loop-job.invariant.2.within, c.end_at-end.ensures.upper_bound)) (ends-below g old b n _ _ _ _ _ _ s h _ c.requires.1 _ pl _ _ w.fit.small w.fit.some c.highest-q.ensures _ (c.end_at-end.ensures.by_index _)) c.if-end-found.true c.if-depth-eq0.true;
+      table_len_unchanged = c.loop-job.invariant.0;
+      memo_len_unchanged = c.loop-job.invariant.1;
     }
 
 pub pass_states-overflow_sub-depth : goal.pass_states-overflow_sub-depth
@@ -112,10 +112,10 @@ pass_states-rules_after-filled-requires t c = (omega arith, (c.requires.0, c.req
 
 pub pass_states-returns-then-table-filled : goal.pass_states-returns-then-table-filled
 pass_states-returns-then-table-filled t c =
-    record
-    { finished = λ g old b n s h pl ag li whole small past. let w = c.loop-job.invariant.3 g old b n s h pl ag li whole small past in walk-over g old b n _ _ _ _ s _ _ _ _ _ _ _ _ _ _ _ _ _ _ (walk-takes g old b n _ _ _ _ s _ _ _ _ _ _ _ _ _ _ _ _ _ _ w whole (within g old b n _ _ _ _ _ _ s h _ c.requires.1) _ c.highest-q.ensures _ c.tag_of-tag.ensures _ (rest-is _ _ c.highest-q.ensures) c.args.fresh.now ag c.fresh_on-new.result (c.fresh_on-new.ensures ∙ ap (λ (a : ℕ). get_or c.args.fresh.now a 0) (below-is g old b n _ _ _ _ _ _ s h _ c.requires.1)) c.older_below-passing.result c.older_below-passing.ensures _ _ c.next_open-found.ensures (omega (arith, c.next_open-found.ensures.within, c.loop-job.invariant.2.within, c.end_at-end.ensures.upper_bound)) (ends-below g old b n _ _ _ _ _ _ s h _ c.requires.1 _ pl _ _ w.fit.small w.fit.some c.highest-q.ensures _ (c.end_at-end.ensures.by_index _)) c.if-end-found.false (below-small g old b n _ _ _ _ _ _ s h _ c.requires.1 _ pl) _ refl c.if-rest-eq0.true _ _ _ (c.rules_after-filled.ensures.finished g old b n w.now w.entered pl ag li whole (word-adds g old b n _ _ _ _ _ _ w.now w.entered c.next_open-found.result c.loop-job.union (omega (arith, c.if-end-found.false, c.end_at-end.ensures.upper_bound))) (past-last g old b n _ _ _ _ s _ _ _ _ _ _ _ _ _ _ _ _ _ _ w whole (within g old b n _ _ _ _ _ _ s h _ c.requires.1) _ c.highest-q.ensures _ c.tag_of-tag.ensures _ (rest-is _ _ c.highest-q.ensures) c.args.fresh.now ag c.fresh_on-new.result (c.fresh_on-new.ensures ∙ ap (λ (a : ℕ). get_or c.args.fresh.now a 0) (below-is g old b n _ _ _ _ _ _ s h _ c.requires.1)) c.older_below-passing.result c.older_below-passing.ensures _ _ c.next_open-found.ensures (omega (arith, c.next_open-found.ensures.within, c.loop-job.invariant.2.within, c.end_at-end.ensures.upper_bound)) (ends-below g old b n _ _ _ _ _ _ s h _ c.requires.1 _ pl _ _ w.fit.small w.fit.some c.highest-q.ensures _ (c.end_at-end.ensures.by_index _)) c.if-end-found.false (below-small g old b n _ _ _ _ _ _ s h _ c.requires.1 _ pl) _ refl c.if-rest-eq0.true c.still_late-still.result c.still_late-still.ensures))) c.if-table-filled.true
-    ; table_len_unchanged = c.rules_after-filled.ensures.table_len_unchanged ∙ c.loop-job.invariant.0
-    ; memo_len_unchanged = c.rules_after-filled.ensures.memo_len_unchanged ∙ c.loop-job.invariant.1
+    record {
+      finished = λ g old b n s h pl ag li whole small past. let w = c.loop-job.invariant.3 g old b n s h pl ag li whole small past in walk-over g old b n _ _ _ _ s _ _ _ _ _ _ _ _ _ _ _ _ _ _ (walk-takes g old b n _ _ _ _ s _ _ _ _ _ _ _ _ _ _ _ _ _ _ w whole (within g old b n _ _ _ _ _ _ s h _ c.requires.1) _ c.highest-q.ensures _ c.tag_of-tag.ensures _ (rest-is _ _ c.highest-q.ensures) c.args.fresh.now ag c.fresh_on-new.result (c.fresh_on-new.ensures ∙ ap (λ (a : ℕ). get_or c.args.fresh.now a 0) (below-is g old b n _ _ _ _ _ _ s h _ c.requires.1)) c.older_below-passing.result c.older_below-passing.ensures _ _ c.next_open-found.ensures (omega (arith, c.next_open-found.ensures.within, c.loop-job.invariant.2.within, c.end_at-end.ensures.upper_bound)) (ends-below g old b n _ _ _ _ _ _ s h _ c.requires.1 _ pl _ _ w.fit.small w.fit.some c.highest-q.ensures _ (c.end_at-end.ensures.by_index _)) c.if-end-found.false (below-small g old b n _ _ _ _ _ _ s h _ c.requires.1 _ pl) _ refl c.if-rest-eq0.true _ _ _ (c.rules_after-filled.ensures.finished g old b n w.now w.entered pl ag li whole (word-adds g old b n _ _ _ _ _ _ w.now w.entered c.next_open-found.result c.loop-job.union (omega (arith, c.if-end-found.false, c.end_at-end.ensures.upper_bound))) (past-last g old b n _ _ _ _ s _ _ _ _ _ _ _ _ _ _ _ _ _ _ w whole (within g old b n _ _ _ _ _ _ s h _ c.requires.1) _ c.highest-q.ensures _ c.tag_of-tag.ensures _ (rest-is _ _ c.highest-q.ensures) c.args.fresh.now ag c.fresh_on-new.result (c.fresh_on-new.ensures ∙ ap (λ (a : ℕ). get_or c.args.fresh.now a 0) (below-is g old b n _ _ _ _ _ _ s h _ c.requires.1)) c.older_below-passing.result c.older_below-passing.ensures _ _ c.next_open-found.ensures (omega (arith, c.next_open-found.ensures.within, c.loop-job.invariant.2.within, c.end_at-end.ensures.upper_bound)) (ends-below g old b n _ _ _ _ _ _ s h _ c.requires.1 _ pl _ _ w.fit.small w.fit.some c.highest-q.ensures _ (c.end_at-end.ensures.by_index _)) c.if-end-found.false (below-small g old b n _ _ _ _ _ _ s h _ c.requires.1 _ pl) _ refl c.if-rest-eq0.true c.still_late-still.result c.still_late-still.ensures))) c.if-table-filled.true;
+      table_len_unchanged = c.rules_after-filled.ensures.table_len_unchanged ∙ c.loop-job.invariant.0;
+      memo_len_unchanged = c.rules_after-filled.ensures.memo_len_unchanged ∙ c.loop-job.invariant.1;
     }
 
 pub pass_states-overflow_add-i : goal.pass_states-overflow_add-i
@@ -168,18 +168,18 @@ rules_after-older_below-requires t c = omega (arith, c.requires.0.few, c.require
 
 pub rules_after-returns-then-older_below-gt0 : goal.rules_after-returns-then-older_below-gt0
 rules_after-returns-then-older_below-gt0 t c =
-    record
-    { finished = λ g old b n s h pl ag li whole some past. let known = c.older_below.ensures c.if-older_below-gt0.true in none-older g old b n _ _ _ _ _ _ s h c.args.fresh.now ag _ 0 _ _ past (omega (arith, known.0, c.if-older_below-gt0.true)) known.1 refl
-    ; table_len_unchanged = refl
-    ; memo_len_unchanged = refl
+    record {
+      finished = λ g old b n s h pl ag li whole some past. let known = c.older_below.ensures c.if-older_below-gt0.true in none-older g old b n _ _ _ _ _ _ s h c.args.fresh.now ag _ 0 _ _ past (omega (arith, known.0, c.if-older_below-gt0.true)) known.1 refl;
+      table_len_unchanged = refl;
+      memo_len_unchanged = refl;
     }
 
 pub rules_after-returns-then-is_finished : goal.rules_after-returns-then-is_finished
 rules_after-returns-then-is_finished t c =
-    record
-    { finished = λ g old b n s h pl ag li whole some past. hit g old b n _ _ _ _ _ _ s h _ _ _ _ whole c.requires.1 c.tag_of-tag.ensures (c.is_finished.ensures c.if-is_finished.true)
-    ; table_len_unchanged = refl
-    ; memo_len_unchanged = refl
+    record {
+      finished = λ g old b n s h pl ag li whole some past. hit g old b n _ _ _ _ _ _ s h _ _ _ _ whole c.requires.1 c.tag_of-tag.ensures (c.is_finished.ensures c.if-is_finished.true);
+      table_len_unchanged = refl;
+      memo_len_unchanged = refl;
     }
 
 pub rules_after-overflow_add-r : goal.rules_after-overflow_add-r
@@ -190,10 +190,10 @@ rules_after-rules_from-filled-requires t c = (omega (arith, c.requires.1), (c.re
 
 pub rules_after-returns : goal.rules_after-returns
 rules_after-returns t c =
-    record
-    { finished = λ g old b n s h pl ag li whole some past. notes g old b n _ _ _ _ _ _ s h _ _ _ _ whole c.requires.1 c.tag_of-tag.ensures _ _ _ _ (none-of-it g old b n _ _ _ _ _ _ s h _ _ (c.rules_from-filled.ensures.finished g old b n s h pl ag li (later g _ _ whole) some (past-rest g old b n _ _ _ _ _ _ s h _ _ _ past))) c.finish.ensures
-    ; table_len_unchanged = search rules
-    ; memo_len_unchanged = search rules
+    record {
+      finished = λ g old b n s h pl ag li whole some past. notes g old b n _ _ _ _ _ _ s h _ _ _ _ whole c.requires.1 c.tag_of-tag.ensures _ _ _ _ (none-of-it g old b n _ _ _ _ _ _ s h _ _ (c.rules_from-filled.ensures.finished g old b n s h pl ag li (later g _ _ whole) some (past-rest g old b n _ _ _ _ _ _ s h _ _ _ past))) c.finish.ensures;
+      table_len_unchanged = search rules;
+      memo_len_unchanged = search rules;
     }
 
 pub rules_by-list_end-end-requires : goal.rules_by-list_end-end-requires
@@ -216,10 +216,10 @@ rules_by-rules_after-filled-requires t c = (omega arith, (c.requires.0, c.requir
 
 pub rules_by-returns-then-table-filled : goal.rules_by-returns-then-table-filled
 rules_by-returns-then-table-filled t c =
-    record
-    { finished = λ g old b n s h pl ag li whole listed. let k = c.loop-i.invariant.3 g old b n s h pl ag li whole in list_over c.args.lists.now c.args.spans.now c.args.r g old b n _ _ _ c.args.union s (c.loop-i.i + 1) _ _ _ (list-next c.args.lists.now c.args.spans.now c.args.r g old b n _ _ _ c.args.union s c.loop-i.i _ _ _ k c.loop-i.invariant.2 (omega (arith, c.loop-i-test.true, c.list_end-end.ensures)) _ _ _ (c.rules_after-filled.ensures.finished g old b n k.now k.entered pl ag li whole (adds c.args.lists.now c.args.spans.now c.args.r g old li (omega (arith, h.stands.last, c.requires.1)) c.loop-i.i c.loop-i.invariant.2 (omega (arith, c.loop-i-test.true, c.list_end-end.ensures)) c.args.union) (λ none. absurd (omega (arith, none))))) c.if-table-filled.true
-    ; table_len_unchanged = c.rules_after-filled.ensures.table_len_unchanged ∙ c.loop-i.invariant.0
-    ; memo_len_unchanged = c.rules_after-filled.ensures.memo_len_unchanged ∙ c.loop-i.invariant.1
+    record {
+      finished = λ g old b n s h pl ag li whole listed. let k = c.loop-i.invariant.3 g old b n s h pl ag li whole in list_over c.args.lists.now c.args.spans.now c.args.r g old b n _ _ _ c.args.union s (c.loop-i.i + 1) _ _ _ (list-next c.args.lists.now c.args.spans.now c.args.r g old b n _ _ _ c.args.union s c.loop-i.i _ _ _ k c.loop-i.invariant.2 (omega (arith, c.loop-i-test.true, c.list_end-end.ensures)) _ _ _ (c.rules_after-filled.ensures.finished g old b n k.now k.entered pl ag li whole (adds c.args.lists.now c.args.spans.now c.args.r g old li (omega (arith, h.stands.last, c.requires.1)) c.loop-i.i c.loop-i.invariant.2 (omega (arith, c.loop-i-test.true, c.list_end-end.ensures)) c.args.union) (λ none. absurd (omega (arith, none))))) c.if-table-filled.true;
+      table_len_unchanged = c.rules_after-filled.ensures.table_len_unchanged ∙ c.loop-i.invariant.0;
+      memo_len_unchanged = c.rules_after-filled.ensures.memo_len_unchanged ∙ c.loop-i.invariant.1;
     }
 
 pub rules_by-overflow_add-i : goal.rules_by-overflow_add-i
@@ -233,18 +233,18 @@ rules_by-loop-i-preserved t c = (c.rules_after-filled.ensures.table_len_unchange
 
 pub rules_by-returns : goal.rules_by-returns
 rules_by-returns t c =
-    record
-    { finished = λ g old b n s h pl ag li whole listed. list-ends c.args.lists.now c.args.spans.now c.args.r g old b n _ _ _ c.args.union s c.loop-i.i _ _ _ (c.loop-i.invariant.3 g old b n s h pl ag li whole) (omega (arith, c.loop-i-test.false, c.list_end-end.ensures))
-    ; table_len_unchanged = c.loop-i.invariant.0
-    ; memo_len_unchanged = c.loop-i.invariant.1
+    record {
+      finished = λ g old b n s h pl ag li whole listed. list-ends c.args.lists.now c.args.spans.now c.args.r g old b n _ _ _ c.args.union s c.loop-i.i _ _ _ (c.loop-i.invariant.3 g old b n s h pl ag li whole) (omega (arith, c.loop-i-test.false, c.list_end-end.ensures));
+      table_len_unchanged = c.loop-i.invariant.0;
+      memo_len_unchanged = c.loop-i.invariant.1;
     }
 
 pub rules_from-returns-then-job-r : goal.rules_from-returns-then-job-r
 rules_from-returns-then-job-r t c =
-    record
-    { finished = λ g old b n s h pl ag li late some past. no-rule g old b n _ _ _ _ _ _ s h _ _ _ c.next_rule-r.ensures c.if-job-r.true some (omega arith) _ _ (λ small. c.insert.ensures.by_index n s (long_of n _ _ s h.filled) h.filled small)
-    ; table_len_unchanged = c.insert.ensures.table_len_unchanged
-    ; memo_len_unchanged = refl
+    record {
+      finished = λ g old b n s h pl ag li late some past. no-rule g old b n _ _ _ _ _ _ s h _ _ _ c.next_rule-r.ensures c.if-job-r.true some (omega arith) _ _ (λ small. c.insert.ensures.by_index n s (long_of n _ _ s h.filled) h.filled small);
+      table_len_unchanged = c.insert.ensures.table_len_unchanged;
+      memo_len_unchanged = refl;
     }
 
 pub rules_from-overflow_mul-at : goal.rules_from-overflow_mul-at
@@ -267,10 +267,10 @@ rules_from-rules_after-requires t c = (omega (arith, c.next_rule-r.ensures.after
 
 pub rules_from-returns-then-rules-at-eq0 : goal.rules_from-returns-then-rules-at-eq0
 rules_from-returns-then-rules-at-eq0 t c =
-    record
-    { finished = λ g old b n s h pl ag li late some past. let next = c.next_rule-r.ensures in let l = c.if-job-r.false in pops-first g old b n _ _ _ _ _ _ s h _ _ _ next l (sym (count-is g old b n _ _ _ _ _ _ s h _ l) ∙ c.if-rules-at-eq0.true) _ (joins g old b n _ _ _ _ _ _ s h _ c.args.union _ next l _ c.joined-passed.ensures) (c.rules_after.ensures.finished g old b n s h pl ag li (job_of g old b n _ _ _ _ _ _ s h _ c.args.union _ next l late) (joins-some g old b n _ _ _ _ _ _ s h _ c.args.union _ next l _ c.joined-passed.ensures) (past-pops g old b n _ _ _ _ _ _ s h _ c.args.union _ next l _ past (sym (count-is g old b n _ _ _ _ _ _ s h _ l) ∙ c.if-rules-at-eq0.true) _ (joins g old b n _ _ _ _ _ _ s h _ c.args.union _ next l _ c.joined-passed.ensures)))
-    ; table_len_unchanged = c.rules_after.ensures.table_len_unchanged
-    ; memo_len_unchanged = c.rules_after.ensures.memo_len_unchanged
+    record {
+      finished = λ g old b n s h pl ag li late some past. let next = c.next_rule-r.ensures in let l = c.if-job-r.false in pops-first g old b n _ _ _ _ _ _ s h _ _ _ next l (sym (count-is g old b n _ _ _ _ _ _ s h _ l) ∙ c.if-rules-at-eq0.true) _ (joins g old b n _ _ _ _ _ _ s h _ c.args.union _ next l _ c.joined-passed.ensures) (c.rules_after.ensures.finished g old b n s h pl ag li (job_of g old b n _ _ _ _ _ _ s h _ c.args.union _ next l late) (joins-some g old b n _ _ _ _ _ _ s h _ c.args.union _ next l _ c.joined-passed.ensures) (past-pops g old b n _ _ _ _ _ _ s h _ c.args.union _ next l _ past (sym (count-is g old b n _ _ _ _ _ _ s h _ l) ∙ c.if-rules-at-eq0.true) _ (joins g old b n _ _ _ _ _ _ s h _ c.args.union _ next l _ c.joined-passed.ensures)));
+      table_len_unchanged = c.rules_after.ensures.table_len_unchanged;
+      memo_len_unchanged = c.rules_after.ensures.memo_len_unchanged;
     }
 
 pub rules_from-is_listed-requires : goal.rules_from-is_listed-requires
@@ -281,10 +281,10 @@ rules_from-rules_by-requires t c = (omega (arith, c.next_rule-r.ensures.after, c
 
 pub rules_from-returns-then-is_listed : goal.rules_from-returns-then-is_listed
 rules_from-returns-then-is_listed t c =
-    record
-    { finished = λ g old b n s h pl ag li late some past. let listed = c.is_listed.ensures c.if-is_listed.true in listed-first g old b n _ _ _ _ _ _ s h _ c.args.union _ c.next_rule-r.ensures c.if-job-r.false _ _ li listed (c.rules_by.ensures.finished g old b n s h pl ag li (job_of g old b n _ _ _ _ _ _ s h _ c.args.union _ c.next_rule-r.ensures c.if-job-r.false late) listed)
-    ; table_len_unchanged = c.rules_by.ensures.table_len_unchanged
-    ; memo_len_unchanged = c.rules_by.ensures.memo_len_unchanged
+    record {
+      finished = λ g old b n s h pl ag li late some past. let listed = c.is_listed.ensures c.if-is_listed.true in listed-first g old b n _ _ _ _ _ _ s h _ c.args.union _ c.next_rule-r.ensures c.if-job-r.false _ _ li listed (c.rules_by.ensures.finished g old b n s h pl ag li (job_of g old b n _ _ _ _ _ _ s h _ c.args.union _ c.next_rule-r.ensures c.if-job-r.false late) listed);
+      table_len_unchanged = c.rules_by.ensures.table_len_unchanged;
+      memo_len_unchanged = c.rules_by.ensures.memo_len_unchanged;
     }
 
 pub rules_from-overflow_add-at-2 : goal.rules_from-overflow_add-at-2
@@ -319,10 +319,10 @@ rules_from-runs_with-filled-requires t c = (omega (arith, c.next_rule-r.ensures.
 
 pub rules_from-returns-then-table-filled : goal.rules_from-returns-then-table-filled
 rules_from-returns-then-table-filled t c =
-    record
-    { finished = λ g old b n s h pl ag li late some past. let l = c.if-job-r.false in writes-first g old b n _ _ _ _ _ _ s h _ _ _ c.next_rule-r.ensures l (λ z. c.if-rules-at-eq0.false (count-is g old b n _ _ _ _ _ _ s h _ l ∙ z)) (let k = c.loop-i.invariant.2 g old b n s h pl ag li late past in none-fits g old b n _ _ _ _ _ s _ _ _ _ (scan-next g old b n _ _ _ _ s _ _ _ _ k (omega (arith, c.loop-i-test.true, c.end_at-end.ensures.upper_bound)) _ _ _ (begun g old b n _ _ _ _ _ _ k.now k.entered _ _ _ (c.runs_with-filled.ensures.finished g old b n k.now k.entered pl ag li (job_of g old b n _ _ _ _ _ _ s h _ c.args.union _ c.next_rule-r.ensures c.if-job-r.false late) (λ some. let p = past-writes g old b n _ _ _ _ _ _ s h _ c.args.union _ c.next_rule-r.ensures c.if-job-r.false _ past (λ z. c.if-rules-at-eq0.false (count-is g old b n _ _ _ _ _ _ s h _ c.if-job-r.false ∙ z)) some in (p.0, k.kept _ p.1))))) c.if-table-filled.true)
-    ; table_len_unchanged = c.runs_with-filled.ensures.table_len_unchanged ∙ c.loop-i.invariant.0
-    ; memo_len_unchanged = c.runs_with-filled.ensures.memo_len_unchanged ∙ c.loop-i.invariant.1
+    record {
+      finished = λ g old b n s h pl ag li late some past. let l = c.if-job-r.false in writes-first g old b n _ _ _ _ _ _ s h _ _ _ c.next_rule-r.ensures l (λ z. c.if-rules-at-eq0.false (count-is g old b n _ _ _ _ _ _ s h _ l ∙ z)) (let k = c.loop-i.invariant.2 g old b n s h pl ag li late past in none-fits g old b n _ _ _ _ _ s _ _ _ _ (scan-next g old b n _ _ _ _ s _ _ _ _ k (omega (arith, c.loop-i-test.true, c.end_at-end.ensures.upper_bound)) _ _ _ (begun g old b n _ _ _ _ _ _ k.now k.entered _ _ _ (c.runs_with-filled.ensures.finished g old b n k.now k.entered pl ag li (job_of g old b n _ _ _ _ _ _ s h _ c.args.union _ c.next_rule-r.ensures c.if-job-r.false late) (λ some. let p = past-writes g old b n _ _ _ _ _ _ s h _ c.args.union _ c.next_rule-r.ensures c.if-job-r.false _ past (λ z. c.if-rules-at-eq0.false (count-is g old b n _ _ _ _ _ _ s h _ c.if-job-r.false ∙ z)) some in (p.0, k.kept _ p.1))))) c.if-table-filled.true);
+      table_len_unchanged = c.runs_with-filled.ensures.table_len_unchanged ∙ c.loop-i.invariant.0;
+      memo_len_unchanged = c.runs_with-filled.ensures.memo_len_unchanged ∙ c.loop-i.invariant.1;
     }
 
 pub rules_from-overflow_add-i : goal.rules_from-overflow_add-i
@@ -336,10 +336,10 @@ rules_from-loop-i-preserved t c = (c.runs_with-filled.ensures.table_len_unchange
 
 pub rules_from-returns : goal.rules_from-returns
 rules_from-returns t c =
-    record
-    { finished = λ g old b n s h pl ag li late some past. let l = c.if-job-r.false in writes-first g old b n _ _ _ _ _ _ s h _ _ _ c.next_rule-r.ensures l (λ z. c.if-rules-at-eq0.false (count-is g old b n _ _ _ _ _ _ s h _ l ∙ z)) (scan-to g old b n _ _ _ _ _ _ (begins-nothing g old _ _ _ _ c.args.union _ _ (to_is g old b n _ _ _ _ _ _ s h _ c.if-job-r.false) (above-is g old b n _ _ _ _ _ _ s h _ c.if-job-r.false)) s _ _ _ _ (c.loop-i.invariant.2 g old b n s h pl ag li late past) _ (c.end_at-end.ensures.by_index _ (above-placed g old b n _ _ _ _ _ _ s h _ l _ pl)) c.loop-i-test.false)
-    ; table_len_unchanged = c.loop-i.invariant.0
-    ; memo_len_unchanged = c.loop-i.invariant.1
+    record {
+      finished = λ g old b n s h pl ag li late some past. let l = c.if-job-r.false in writes-first g old b n _ _ _ _ _ _ s h _ _ _ c.next_rule-r.ensures l (λ z. c.if-rules-at-eq0.false (count-is g old b n _ _ _ _ _ _ s h _ l ∙ z)) (scan-to g old b n _ _ _ _ _ _ (begins-nothing g old _ _ _ _ c.args.union _ _ (to_is g old b n _ _ _ _ _ _ s h _ c.if-job-r.false) (above-is g old b n _ _ _ _ _ _ s h _ c.if-job-r.false)) s _ _ _ _ (c.loop-i.invariant.2 g old b n s h pl ag li late past) _ (c.end_at-end.ensures.by_index _ (above-placed g old b n _ _ _ _ _ _ s h _ l _ pl)) c.loop-i-test.false);
+      table_len_unchanged = c.loop-i.invariant.0;
+      memo_len_unchanged = c.loop-i.invariant.1;
     }
 
 pub runs_with-overflow_mul-at : goal.runs_with-overflow_mul-at
@@ -353,10 +353,10 @@ runs_with-bounds-rules-at t c = omega arith
 
 pub runs_with-returns-then-state-rules : goal.runs_with-returns-then-state-rules
 runs_with-returns-then-state-rules t c =
-    record
-    { finished = λ g old b n s h pl ag li whole past. begins-none g old b n _ _ _ _ _ _ s h _ _ _ (other-state g old b n _ _ _ _ _ _ s h _ c.requires.2 _ c.at-entry.ensures _ _ (λ e. c.if-state-rules.true (c.state.ensures ∙ e ∙ sym (to_is g old b n _ _ _ _ _ _ s h _ c.requires.1))))
-    ; table_len_unchanged = refl
-    ; memo_len_unchanged = refl
+    record {
+      finished = λ g old b n s h pl ag li whole past. begins-none g old b n _ _ _ _ _ _ s h _ _ _ (other-state g old b n _ _ _ _ _ _ s h _ c.requires.2 _ c.at-entry.ensures _ _ (λ e. c.if-state-rules.true (c.state.ensures ∙ e ∙ sym (to_is g old b n _ _ _ _ _ _ s h _ c.requires.1))));
+      table_len_unchanged = refl;
+      memo_len_unchanged = refl;
     }
 
 pub runs_with-overflow_add-at-2 : goal.runs_with-overflow_add-at-2
@@ -367,10 +367,10 @@ runs_with-bounds-rules-at-2 t c = omega arith
 
 pub runs_with-returns-then-letter-rules : goal.runs_with-returns-then-letter-rules
 runs_with-returns-then-letter-rules t c =
-    record
-    { finished = λ g old b n s h pl ag li whole past. begins-none g old b n _ _ _ _ _ _ s h _ _ _ (other-letter g old b n _ _ _ _ _ _ s h _ c.requires.2 _ c.at-entry.ensures _ _ (λ e. c.if-letter-rules.true (c.letter.ensures ∙ e ∙ sym (above-is g old b n _ _ _ _ _ _ s h _ c.requires.1))))
-    ; table_len_unchanged = refl
-    ; memo_len_unchanged = refl
+    record {
+      finished = λ g old b n s h pl ag li whole past. begins-none g old b n _ _ _ _ _ _ s h _ _ _ (other-letter g old b n _ _ _ _ _ _ s h _ c.requires.2 _ c.at-entry.ensures _ _ (λ e. c.if-letter-rules.true (c.letter.ensures ∙ e ∙ sym (above-is g old b n _ _ _ _ _ _ s h _ c.requires.1))));
+      table_len_unchanged = refl;
+      memo_len_unchanged = refl;
     }
 
 pub runs_with-overflow_add-at-3 : goal.runs_with-overflow_add-at-3
@@ -384,10 +384,10 @@ runs_with-rules_after-requires t c = (omega (arith, c.requires.1), (c.requires.0
 
 pub runs_with-returns-then-rules-at-eq1 : goal.runs_with-returns-then-rules-at-eq1
 runs_with-returns-then-rules-at-eq1 t c =
-    record
-    { finished = λ g old b n s h pl ag li whole past. begins-one g old b n _ _ _ _ _ _ s h _ _ _ _ (set-of g old b n _ _ _ _ _ _ s h _ c.requires.2 _ c.at-entry.ensures) (same_head g old b n _ _ _ _ _ _ s h _ c.requires.2 _ c.at-entry.ensures _ _ (sym c.state.ensures ∙ c.if-state-rules.false ∙ to_is g old b n _ _ _ _ _ _ s h _ c.requires.1) (sym c.letter.ensures ∙ c.if-letter-rules.false ∙ above-is g old b n _ _ _ _ _ _ s h _ c.requires.1)) (sym (count-is g old b n _ _ _ _ _ _ s h _ c.requires.1) ∙ c.if-rules-at-eq1.true) (c.rules_after.ensures.finished g old b n s h pl ag li whole (union-adds g old b n _ _ _ _ _ _ s h _ c.requires.2 _ c.at-entry.ensures c.args.union) (past_one g old b n _ _ _ _ _ _ s h _ _ c.args.union _ past c.requires.2 _ c.at-entry.ensures c.still_late-still.result c.still_late-still.ensures (set-of g old b n _ _ _ _ _ _ s h _ c.requires.2 _ c.at-entry.ensures) (same_head g old b n _ _ _ _ _ _ s h _ c.requires.2 _ c.at-entry.ensures _ _ (sym c.state.ensures ∙ c.if-state-rules.false ∙ to_is g old b n _ _ _ _ _ _ s h _ c.requires.1) (sym c.letter.ensures ∙ c.if-letter-rules.false ∙ above-is g old b n _ _ _ _ _ _ s h _ c.requires.1)) (sym (count-is g old b n _ _ _ _ _ _ s h _ c.requires.1) ∙ c.if-rules-at-eq1.true)))
-    ; table_len_unchanged = c.rules_after.ensures.table_len_unchanged
-    ; memo_len_unchanged = c.rules_after.ensures.memo_len_unchanged
+    record {
+      finished = λ g old b n s h pl ag li whole past. begins-one g old b n _ _ _ _ _ _ s h _ _ _ _ (set-of g old b n _ _ _ _ _ _ s h _ c.requires.2 _ c.at-entry.ensures) (same_head g old b n _ _ _ _ _ _ s h _ c.requires.2 _ c.at-entry.ensures _ _ (sym c.state.ensures ∙ c.if-state-rules.false ∙ to_is g old b n _ _ _ _ _ _ s h _ c.requires.1) (sym c.letter.ensures ∙ c.if-letter-rules.false ∙ above-is g old b n _ _ _ _ _ _ s h _ c.requires.1)) (sym (count-is g old b n _ _ _ _ _ _ s h _ c.requires.1) ∙ c.if-rules-at-eq1.true) (c.rules_after.ensures.finished g old b n s h pl ag li whole (union-adds g old b n _ _ _ _ _ _ s h _ c.requires.2 _ c.at-entry.ensures c.args.union) (past_one g old b n _ _ _ _ _ _ s h _ _ c.args.union _ past c.requires.2 _ c.at-entry.ensures c.still_late-still.result c.still_late-still.ensures (set-of g old b n _ _ _ _ _ _ s h _ c.requires.2 _ c.at-entry.ensures) (same_head g old b n _ _ _ _ _ _ s h _ c.requires.2 _ c.at-entry.ensures _ _ (sym c.state.ensures ∙ c.if-state-rules.false ∙ to_is g old b n _ _ _ _ _ _ s h _ c.requires.1) (sym c.letter.ensures ∙ c.if-letter-rules.false ∙ above-is g old b n _ _ _ _ _ _ s h _ c.requires.1)) (sym (count-is g old b n _ _ _ _ _ _ s h _ c.requires.1) ∙ c.if-rules-at-eq1.true)));
+      table_len_unchanged = c.rules_after.ensures.table_len_unchanged;
+      memo_len_unchanged = c.rules_after.ensures.memo_len_unchanged;
     }
 
 pub runs_with-overflow_add-at-4 : goal.runs_with-overflow_add-at-4
@@ -398,10 +398,10 @@ runs_with-bounds-rules-at-4 t c = omega arith
 
 pub runs_with-returns-then-is_blocked : goal.runs_with-returns-then-is_blocked
 runs_with-returns-then-is_blocked t c =
-    record
-    { finished = λ g old b n s h pl ag li whole past. begins-two g old b n _ _ _ _ _ _ s h _ _ _ _ (set-of g old b n _ _ _ _ _ _ s h _ c.requires.2 _ c.at-entry.ensures) (same_head g old b n _ _ _ _ _ _ s h _ c.requires.2 _ c.at-entry.ensures _ _ (sym c.state.ensures ∙ c.if-state-rules.false ∙ to_is g old b n _ _ _ _ _ _ s h _ c.requires.1) (sym c.letter.ensures ∙ c.if-letter-rules.false ∙ above-is g old b n _ _ _ _ _ _ s h _ c.requires.1)) (λ e. c.if-rules-at-eq1.false (count-is g old b n _ _ _ _ _ _ s h _ c.requires.1 ∙ e)) (blocked g old b n _ _ _ _ _ _ s h _ c.requires.1 _ pl _ _ (set_below g old b n _ _ _ _ _ _ s h _ c.requires.2 _ c.at-entry.ensures) (c.is_blocked.ensures.blocked c.if-is_blocked.true (omega (arith, set-adds g old b n _ _ _ _ _ _ s h _ c.requires.2 _ c.at-entry.ensures 0))))
-    ; table_len_unchanged = refl
-    ; memo_len_unchanged = refl
+    record {
+      finished = λ g old b n s h pl ag li whole past. begins-two g old b n _ _ _ _ _ _ s h _ _ _ _ (set-of g old b n _ _ _ _ _ _ s h _ c.requires.2 _ c.at-entry.ensures) (same_head g old b n _ _ _ _ _ _ s h _ c.requires.2 _ c.at-entry.ensures _ _ (sym c.state.ensures ∙ c.if-state-rules.false ∙ to_is g old b n _ _ _ _ _ _ s h _ c.requires.1) (sym c.letter.ensures ∙ c.if-letter-rules.false ∙ above-is g old b n _ _ _ _ _ _ s h _ c.requires.1)) (λ e. c.if-rules-at-eq1.false (count-is g old b n _ _ _ _ _ _ s h _ c.requires.1 ∙ e)) (blocked g old b n _ _ _ _ _ _ s h _ c.requires.1 _ pl _ _ (set_below g old b n _ _ _ _ _ _ s h _ c.requires.2 _ c.at-entry.ensures) (c.is_blocked.ensures.blocked c.if-is_blocked.true (omega (arith, set-adds g old b n _ _ _ _ _ _ s h _ c.requires.2 _ c.at-entry.ensures 0))));
+      table_len_unchanged = refl;
+      memo_len_unchanged = refl;
     }
 
 pub runs_with-overflow_add-at-5 : goal.runs_with-overflow_add-at-5
@@ -415,10 +415,10 @@ runs_with-older_below-requires t c = omega (arith, c.requires.0.few, c.requires.
 
 pub runs_with-returns-then-older_below-gt0 : goal.runs_with-returns-then-older_below-gt0
 runs_with-returns-then-older_below-gt0 t c =
-    record
-    { finished = λ g old b n s h pl ag li whole past. let known = c.older_below.ensures c.if-older_below-gt0.true in begins-two g old b n _ _ _ _ _ _ s h _ _ _ _ (set-of g old b n _ _ _ _ _ _ s h _ c.requires.2 _ c.at-entry.ensures) (same_head g old b n _ _ _ _ _ _ s h _ c.requires.2 _ c.at-entry.ensures _ _ (sym c.state.ensures ∙ c.if-state-rules.false ∙ to_is g old b n _ _ _ _ _ _ s h _ c.requires.1) (sym c.letter.ensures ∙ c.if-letter-rules.false ∙ above-is g old b n _ _ _ _ _ _ s h _ c.requires.1)) (λ e. c.if-rules-at-eq1.false (count-is g old b n _ _ _ _ _ _ s h _ c.requires.1 ∙ e)) (set-older g old b n _ _ _ _ _ _ s h c.args.fresh.now ag _ _ _ _ (past_two g old b n _ _ _ _ _ _ s h _ _ c.args.union _ past c.requires.2 _ c.at-entry.ensures c.still_late-still.result c.still_late-still.ensures (set-of g old b n _ _ _ _ _ _ s h _ c.requires.2 _ c.at-entry.ensures) (same_head g old b n _ _ _ _ _ _ s h _ c.requires.2 _ c.at-entry.ensures _ _ (sym c.state.ensures ∙ c.if-state-rules.false ∙ to_is g old b n _ _ _ _ _ _ s h _ c.requires.1) (sym c.letter.ensures ∙ c.if-letter-rules.false ∙ above-is g old b n _ _ _ _ _ _ s h _ c.requires.1)) (λ e. c.if-rules-at-eq1.false (count-is g old b n _ _ _ _ _ _ s h _ c.requires.1 ∙ e))) (omega (arith, known.0, c.if-older_below-gt0.true)) known.1 c.fresh_on.result (c.fresh_on.ensures ∙ ap (λ (a : ℕ). get_or c.args.fresh.now a 0) (below-is g old b n _ _ _ _ _ _ s h _ c.requires.1)) known.2)
-    ; table_len_unchanged = refl
-    ; memo_len_unchanged = refl
+    record {
+      finished = λ g old b n s h pl ag li whole past. let known = c.older_below.ensures c.if-older_below-gt0.true in begins-two g old b n _ _ _ _ _ _ s h _ _ _ _ (set-of g old b n _ _ _ _ _ _ s h _ c.requires.2 _ c.at-entry.ensures) (same_head g old b n _ _ _ _ _ _ s h _ c.requires.2 _ c.at-entry.ensures _ _ (sym c.state.ensures ∙ c.if-state-rules.false ∙ to_is g old b n _ _ _ _ _ _ s h _ c.requires.1) (sym c.letter.ensures ∙ c.if-letter-rules.false ∙ above-is g old b n _ _ _ _ _ _ s h _ c.requires.1)) (λ e. c.if-rules-at-eq1.false (count-is g old b n _ _ _ _ _ _ s h _ c.requires.1 ∙ e)) (set-older g old b n _ _ _ _ _ _ s h c.args.fresh.now ag _ _ _ _ (past_two g old b n _ _ _ _ _ _ s h _ _ c.args.union _ past c.requires.2 _ c.at-entry.ensures c.still_late-still.result c.still_late-still.ensures (set-of g old b n _ _ _ _ _ _ s h _ c.requires.2 _ c.at-entry.ensures) (same_head g old b n _ _ _ _ _ _ s h _ c.requires.2 _ c.at-entry.ensures _ _ (sym c.state.ensures ∙ c.if-state-rules.false ∙ to_is g old b n _ _ _ _ _ _ s h _ c.requires.1) (sym c.letter.ensures ∙ c.if-letter-rules.false ∙ above-is g old b n _ _ _ _ _ _ s h _ c.requires.1)) (λ e. c.if-rules-at-eq1.false (count-is g old b n _ _ _ _ _ _ s h _ c.requires.1 ∙ e))) (omega (arith, known.0, c.if-older_below-gt0.true)) known.1 c.fresh_on.result (c.fresh_on.ensures ∙ ap (λ (a : ℕ). get_or c.args.fresh.now a 0) (below-is g old b n _ _ _ _ _ _ s h _ c.requires.1)) known.2);
+      table_len_unchanged = refl;
+      memo_len_unchanged = refl;
     }
 
 pub runs_with-pass_states-requires : goal.runs_with-pass_states-requires
@@ -426,8 +426,8 @@ runs_with-pass_states-requires t c = (omega (arith, c.requires.1), (c.requires.0
 
 pub runs_with-returns : goal.runs_with-returns
 runs_with-returns t c =
-    record
-    { finished = λ g old b n s h pl ag li whole past. begins-two g old b n _ _ _ _ _ _ s h _ _ _ _ (set-of g old b n _ _ _ _ _ _ s h _ c.requires.2 _ c.at-entry.ensures) (same_head g old b n _ _ _ _ _ _ s h _ c.requires.2 _ c.at-entry.ensures _ _ (sym c.state.ensures ∙ c.if-state-rules.false ∙ to_is g old b n _ _ _ _ _ _ s h _ c.requires.1) (sym c.letter.ensures ∙ c.if-letter-rules.false ∙ above-is g old b n _ _ _ _ _ _ s h _ c.requires.1)) (λ e. c.if-rules-at-eq1.false (count-is g old b n _ _ _ _ _ _ s h _ c.requires.1 ∙ e)) (c.pass_states.ensures.finished g old b n s h pl ag li whole (set_below g old b n _ _ _ _ _ _ s h _ c.requires.2 _ c.at-entry.ensures) (past_two g old b n _ _ _ _ _ _ s h _ _ c.args.union _ past c.requires.2 _ c.at-entry.ensures c.still_late-still.result c.still_late-still.ensures (set-of g old b n _ _ _ _ _ _ s h _ c.requires.2 _ c.at-entry.ensures) (same_head g old b n _ _ _ _ _ _ s h _ c.requires.2 _ c.at-entry.ensures _ _ (sym c.state.ensures ∙ c.if-state-rules.false ∙ to_is g old b n _ _ _ _ _ _ s h _ c.requires.1) (sym c.letter.ensures ∙ c.if-letter-rules.false ∙ above-is g old b n _ _ _ _ _ _ s h _ c.requires.1)) (λ e. c.if-rules-at-eq1.false (count-is g old b n _ _ _ _ _ _ s h _ c.requires.1 ∙ e))))
-    ; table_len_unchanged = c.pass_states.ensures.table_len_unchanged
-    ; memo_len_unchanged = c.pass_states.ensures.memo_len_unchanged
+    record {
+      finished = λ g old b n s h pl ag li whole past. begins-two g old b n _ _ _ _ _ _ s h _ _ _ _ (set-of g old b n _ _ _ _ _ _ s h _ c.requires.2 _ c.at-entry.ensures) (same_head g old b n _ _ _ _ _ _ s h _ c.requires.2 _ c.at-entry.ensures _ _ (sym c.state.ensures ∙ c.if-state-rules.false ∙ to_is g old b n _ _ _ _ _ _ s h _ c.requires.1) (sym c.letter.ensures ∙ c.if-letter-rules.false ∙ above-is g old b n _ _ _ _ _ _ s h _ c.requires.1)) (λ e. c.if-rules-at-eq1.false (count-is g old b n _ _ _ _ _ _ s h _ c.requires.1 ∙ e)) (c.pass_states.ensures.finished g old b n s h pl ag li whole (set_below g old b n _ _ _ _ _ _ s h _ c.requires.2 _ c.at-entry.ensures) (past_two g old b n _ _ _ _ _ _ s h _ _ c.args.union _ past c.requires.2 _ c.at-entry.ensures c.still_late-still.result c.still_late-still.ensures (set-of g old b n _ _ _ _ _ _ s h _ c.requires.2 _ c.at-entry.ensures) (same_head g old b n _ _ _ _ _ _ s h _ c.requires.2 _ c.at-entry.ensures _ _ (sym c.state.ensures ∙ c.if-state-rules.false ∙ to_is g old b n _ _ _ _ _ _ s h _ c.requires.1) (sym c.letter.ensures ∙ c.if-letter-rules.false ∙ above-is g old b n _ _ _ _ _ _ s h _ c.requires.1)) (λ e. c.if-rules-at-eq1.false (count-is g old b n _ _ _ _ _ _ s h _ c.requires.1 ∙ e))));
+      table_len_unchanged = c.pass_states.ensures.table_len_unchanged;
+      memo_len_unchanged = c.pass_states.ensures.memo_len_unchanged;
     }

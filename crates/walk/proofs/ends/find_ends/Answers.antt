@@ -56,10 +56,10 @@ shape_of-memo-then-sets-count c = c.runs_with-count.ensures.memo_len_unchanged �
 
 pub returns-then-sets-count : goal.returns-then-sets-count
 returns-then-sets-count c =
-    record
-    { filled = λ g old b m stands pl ag hit two stored blank. let e = c.alone_of-alone.ensures in let l = its-end c.args.job _ c.args.r e in let h = enters g old b _ _ _ stands _ c.requires.1 hit _ e m _ _ stored blank in let w = begins g old b _ _ _ stands _ c.requires.1 hit _ e in let placing = placed g old b _ _ _ stands _ c.requires.1 hit _ e _ pl in let aging = ages g old b _ _ _ stands _ c.requires.1 hit _ e _ ag in let k = c.loop-i.invariant.2 (hers g) old b m (partly []) h placing aging w in finds g old b _ _ _ stands _ c.requires.1 hit _ e m _ _ (writes-first (hers g) old b m _ _ _ _ _ _ (partly []) h _ 0 _ (itself (hers g) old b m _ _ _ _ _ _ (partly []) h _ l w) l (λ z. absurd (omega (arith, two, count-is (hers g) old b m _ _ _ _ _ _ (partly []) h _ l, z))) (none-fits (hers g) old b m _ _ _ _ _ (partly []) _ _ _ _ (scan-next (hers g) old b m _ _ _ _ (partly []) _ _ _ _ k (omega (arith, c.loop-i-test.true, c.end_at-end.ensures.upper_bound)) _ _ _ (begun (hers g) old b m _ _ _ _ _ _ k.now k.entered _ _ _ (c.runs_with-count.ensures.finished (hers g) old b m k.now k.entered placing aging (listed-none (hers g) old _ _ (zero-at 1)) w (λ none. absurd (omega (arith, none)))))) c.if-sets-count.true)).filled
-    ; sets_len_unchanged = c.runs_with-count.ensures.table_len_unchanged ∙ c.loop-i.invariant.0
-    ; memo_len_unchanged = c.runs_with-count.ensures.memo_len_unchanged ∙ c.loop-i.invariant.1
+    record {
+      filled = λ g old b m stands pl ag hit two stored blank. let e = c.alone_of-alone.ensures in let l = its-end c.args.job _ c.args.r e in let h = enters g old b _ _ _ stands _ c.requires.1 hit _ e m _ _ stored blank in let w = begins g old b _ _ _ stands _ c.requires.1 hit _ e in let placing = placed g old b _ _ _ stands _ c.requires.1 hit _ e _ pl in let aging = ages g old b _ _ _ stands _ c.requires.1 hit _ e _ ag in let k = c.loop-i.invariant.2 (hers g) old b m (partly []) h placing aging w in finds g old b _ _ _ stands _ c.requires.1 hit _ e m _ _ (writes-first (hers g) old b m _ _ _ _ _ _ (partly []) h _ 0 _ (itself (hers g) old b m _ _ _ _ _ _ (partly []) h _ l w) l (λ z. absurd (omega (arith, two, count-is (hers g) old b m _ _ _ _ _ _ (partly []) h _ l, z))) (none-fits (hers g) old b m _ _ _ _ _ (partly []) _ _ _ _ (scan-next (hers g) old b m _ _ _ _ (partly []) _ _ _ _ k (omega (arith, c.loop-i-test.true, c.end_at-end.ensures.upper_bound)) _ _ _ (begun (hers g) old b m _ _ _ _ _ _ k.now k.entered _ _ _ (c.runs_with-count.ensures.finished (hers g) old b m k.now k.entered placing aging (listed-none (hers g) old _ _ (zero-at 1)) w (λ none. absurd (omega (arith, none)))))) c.if-sets-count.true)).filled;
+      sets_len_unchanged = c.runs_with-count.ensures.table_len_unchanged ∙ c.loop-i.invariant.0;
+      memo_len_unchanged = c.runs_with-count.ensures.memo_len_unchanged ∙ c.loop-i.invariant.1;
     }
 
 pub loop-i-smaller : goal.loop-i-smaller
@@ -76,8 +76,8 @@ shape_of-memo c = c.loop-i.invariant.1
 
 pub returns : goal.returns
 returns c =
-    record
-    { filled = λ g old b m stands pl ag hit two stored blank. let e = c.alone_of-alone.ensures in let l = its-end c.args.job _ c.args.r e in let h = enters g old b _ _ _ stands _ c.requires.1 hit _ e m _ _ stored blank in let w = begins g old b _ _ _ stands _ c.requires.1 hit _ e in let placing = placed g old b _ _ _ stands _ c.requires.1 hit _ e _ pl in let aging = ages g old b _ _ _ stands _ c.requires.1 hit _ e _ ag in finds g old b _ _ _ stands _ c.requires.1 hit _ e m _ _ (writes-first (hers g) old b m _ _ _ _ _ _ (partly []) h _ 0 _ (itself (hers g) old b m _ _ _ _ _ _ (partly []) h _ l w) l (λ z. absurd (omega (arith, two, count-is (hers g) old b m _ _ _ _ _ _ (partly []) h _ l, z))) (scan-to (hers g) old b m _ _ _ _ _ _ (begins-nothing (hers g) old _ _ _ _ 0 _ _ (to_is (hers g) old b m _ _ _ _ _ _ (partly []) h _ l) (above-is (hers g) old b m _ _ _ _ _ _ (partly []) h _ l)) (partly []) _ _ _ _ (c.loop-i.invariant.2 (hers g) old b m (partly []) h placing aging w) _ (c.end_at-end.ensures.by_index _ (above-placed (hers g) old b m _ _ _ _ _ _ (partly []) h _ l _ placing)) c.loop-i-test.false)).filled
-    ; sets_len_unchanged = c.loop-i.invariant.0
-    ; memo_len_unchanged = c.loop-i.invariant.1
+    record {
+      filled = λ g old b m stands pl ag hit two stored blank. let e = c.alone_of-alone.ensures in let l = its-end c.args.job _ c.args.r e in let h = enters g old b _ _ _ stands _ c.requires.1 hit _ e m _ _ stored blank in let w = begins g old b _ _ _ stands _ c.requires.1 hit _ e in let placing = placed g old b _ _ _ stands _ c.requires.1 hit _ e _ pl in let aging = ages g old b _ _ _ stands _ c.requires.1 hit _ e _ ag in finds g old b _ _ _ stands _ c.requires.1 hit _ e m _ _ (writes-first (hers g) old b m _ _ _ _ _ _ (partly []) h _ 0 _ (itself (hers g) old b m _ _ _ _ _ _ (partly []) h _ l w) l (λ z. absurd (omega (arith, two, count-is (hers g) old b m _ _ _ _ _ _ (partly []) h _ l, z))) (scan-to (hers g) old b m _ _ _ _ _ _ (begins-nothing (hers g) old _ _ _ _ 0 _ _ (to_is (hers g) old b m _ _ _ _ _ _ (partly []) h _ l) (above-is (hers g) old b m _ _ _ _ _ _ (partly []) h _ l)) (partly []) _ _ _ _ (c.loop-i.invariant.2 (hers g) old b m (partly []) h placing aging w) _ (c.end_at-end.ensures.by_index _ (above-placed (hers g) old b m _ _ _ _ _ _ (partly []) h _ l _ placing)) c.loop-i-test.false)).filled;
+      sets_len_unchanged = c.loop-i.invariant.0;
+      memo_len_unchanged = c.loop-i.invariant.1;
     }

@@ -8,13 +8,13 @@ use Rattle.walk.proofs.ends.list_rule.Goals as goal
 
 pub returns-then-rules-r-ne2 : goal.returns-then-rules-r-ne2
 returns-then-rules-r-ne2 c =
-    record
-    { listed = λ g old b stands pl ag hit zs zm bd li. li
-    ; upper_bound = (c.requires.5, λ bd. bd, λ z. z, λ z. z)
-    ; sets_len_unchanged = refl
-    ; memo_len_unchanged = refl
-    ; lists_len_unchanged = refl
-    ; spans_len_unchanged = refl
+    record {
+      listed = λ g old b stands pl ag hit zs zm bd li. li;
+      upper_bound = (c.requires.5, λ bd. bd, λ z. z, λ z. z);
+      sets_len_unchanged = refl;
+      memo_len_unchanged = refl;
+      lists_len_unchanged = refl;
+      spans_len_unchanged = refl;
     }
 
 pub find_ends-count-requires : goal.find_ends-count-requires
@@ -28,13 +28,13 @@ clear_words-requires-then-count-gt-ENDS c = omega arith
 
 pub returns-then-count-gt-ENDS : goal.returns-then-count-gt-ENDS
 returns-then-count-gt-ENDS c =
-    record
-    { listed = λ g old b stands pl ag hit zs zm bd li. li
-    ; upper_bound = (c.requires.5, λ bd. bd, λ z. all-cleared _ _ _ c.clear_words-then-count-gt-ENDS.ensures (omega arith), λ z. all-cleared _ _ _ c.clear_words.ensures (omega arith))
-    ; sets_len_unchanged = c.clear_words-then-count-gt-ENDS.ensures.long ∙ c.find_ends-count.ensures.sets_len_unchanged
-    ; memo_len_unchanged = c.clear_words.ensures.long ∙ c.find_ends-count.ensures.memo_len_unchanged
-    ; lists_len_unchanged = refl
-    ; spans_len_unchanged = refl
+    record {
+      listed = λ g old b stands pl ag hit zs zm bd li. li;
+      upper_bound = (c.requires.5, λ bd. bd, λ z. all-cleared _ _ _ c.clear_words-then-count-gt-ENDS.ensures (omega arith), λ z. all-cleared _ _ _ c.clear_words.ensures (omega arith));
+      sets_len_unchanged = c.clear_words-then-count-gt-ENDS.ensures.long ∙ c.find_ends-count.ensures.sets_len_unchanged;
+      memo_len_unchanged = c.clear_words.ensures.long ∙ c.find_ends-count.ensures.memo_len_unchanged;
+      lists_len_unchanged = refl;
+      spans_len_unchanged = refl;
     }
 
 pub keep_list-after-requires : goal.keep_list-after-requires
@@ -45,11 +45,11 @@ clear_words-requires-2 c = omega arith
 
 pub returns : goal.returns
 returns c =
-    record
-    { listed = λ g old b stands pl ag hit zs zm bd li. let f = found _ _ b _ _ 1024 _ _ (c.find_ends-count.ensures.filled g old b 1024 stands pl ag hit c.if-rules-r-ne2.false (zero-stored 1024 _ c.requires.2 zs) (λ k. zm (k * 3))) c.if-count-gt-ENDS.false in listed_more g old _ _ _ _ _ _ _ _ _ li bd (omega (arith, c.requires.4, c.requires.0.few, c.requires.1)) 1024 f.entries f.stored f.are f.every c.keep_list-after.ensures
-    ; upper_bound = (omega (arith, c.keep_list-after.ensures.within, c.requires.3), λ bd. bounded-more _ _ _ _ _ _ _ _ _ bd (omega (arith, c.requires.4, c.requires.0.few, c.requires.1)) c.keep_list-after.ensures, λ z. all-cleared _ _ _ c.clear_words-2.ensures (omega arith), λ z. all-cleared _ _ _ c.clear_words.ensures (omega arith))
-    ; sets_len_unchanged = c.clear_words-2.ensures.long ∙ c.find_ends-count.ensures.sets_len_unchanged
-    ; memo_len_unchanged = c.clear_words.ensures.long ∙ c.find_ends-count.ensures.memo_len_unchanged
-    ; lists_len_unchanged = c.keep_list-after.ensures.long
-    ; spans_len_unchanged = c.keep_list-after.ensures.wide
+    record {
+      listed = λ g old b stands pl ag hit zs zm bd li. let f = found _ _ b _ _ 1024 _ _ (c.find_ends-count.ensures.filled g old b 1024 stands pl ag hit c.if-rules-r-ne2.false (zero-stored 1024 _ c.requires.2 zs) (λ k. zm (k * 3))) c.if-count-gt-ENDS.false in listed_more g old _ _ _ _ _ _ _ _ _ li bd (omega (arith, c.requires.4, c.requires.0.few, c.requires.1)) 1024 f.entries f.stored f.are f.every c.keep_list-after.ensures;
+      upper_bound = (omega (arith, c.keep_list-after.ensures.within, c.requires.3), λ bd. bounded-more _ _ _ _ _ _ _ _ _ bd (omega (arith, c.requires.4, c.requires.0.few, c.requires.1)) c.keep_list-after.ensures, λ z. all-cleared _ _ _ c.clear_words-2.ensures (omega arith), λ z. all-cleared _ _ _ c.clear_words.ensures (omega arith));
+      sets_len_unchanged = c.clear_words-2.ensures.long ∙ c.find_ends-count.ensures.sets_len_unchanged;
+      memo_len_unchanged = c.clear_words.ensures.long ∙ c.find_ends-count.ensures.memo_len_unchanged;
+      lists_len_unchanged = c.keep_list-after.ensures.long;
+      spans_len_unchanged = c.keep_list-after.ensures.wide;
     }

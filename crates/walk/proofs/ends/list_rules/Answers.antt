@@ -43,8 +43,8 @@ shape_of-spans c = c.loop-r.invariant.1 ∙ c.clear_spans.ensures.spans_len_unch
 
 pub returns : goal.returns
 returns c =
-    record
-    { listed = λ g old b stands pl ag. c.loop-r.invariant.10 g old b stands pl ag
-    ; lists_len_unchanged = c.loop-r.invariant.0
-    ; spans_len_unchanged = c.loop-r.invariant.1 ∙ c.clear_spans.ensures.spans_len_unchanged
+    record {
+      listed = λ g old b stands pl ag. c.loop-r.invariant.10 g old b stands pl ag;
+      lists_len_unchanged = c.loop-r.invariant.0;
+      spans_len_unchanged = c.loop-r.invariant.1 ∙ c.clear_spans.ensures.spans_len_unchanged;
     }

@@ -113,9 +113,9 @@ shape_of-spans-after-round c = c.round.invariant.4 ∙ sym c.requires.5
 pub returns-after-round : goal.returns-after-round
 returns-after-round c =
     let added = ends _ _ _ _ _ _ _ _ c.round.invariant.2 (λ g es n h. turns-none g es n _ _ _ _ _ h _ _ _ _ refl refl c.round-test.false) in
-    record
-    { filled = round_filled _ _ _ _ _ _ _ _ added
-    ; table_len_unchanged = c.round.invariant.0
+    record {
+      filled = round_filled _ _ _ _ _ _ _ _ added;
+      table_len_unchanged = c.round.invariant.0;
     }
 
 pub shape_of-table-then-size-count : goal.shape_of-table-then-size-count
@@ -133,7 +133,7 @@ shape_of-spans-then-size-count c = c.list_later.ensures.spans_len_unchanged ∙ 
 pub returns-then-size-count : goal.returns-then-size-count
 returns-then-size-count c =
     let at = at-rule _ _ _ _ _ (c.round.turn % (c.args.sizes.control * c.args.sizes.letters)) c.loop-r.r _ _ c.requires.1 (mod-lt c.round.turn (omega (arith, c.round-test.true))) c.loop-r-test.true c.loop-r.invariant.3 c.job_of-job.ensures.value c.job_of-job.ensures.settled_from refl in let long = c.run_at-count.ensures.table_len_unchanged ∙ c.loop-i.invariant.0 ∙ c.loop-r.invariant.0 ∙ c.round.invariant.0 in let full : length c.run_at-count.new.table / 3 < c.run_at-count.result = rw long c.if-size-count.true in let run = run-turn _ _ _ _ _ _ _ _ c.requires.3 _ _ _ _ _ at _ _ (list-turn _ _ _ _ _ _ _ c.args.late c.requires.3 _ _ _ _ _ at c.loop-r.invariant.7 c.list_later.ensures.listed) _ c.loop-i.invariant.2 (omega (arith, c.loop-i-test.true, runs-within _ _ _ _ _ _ _ c.runs_end-end.ensures)) c.run_at-count.ensures.finished in let job = job-turn _ _ _ _ _ _ _ _ c.requires.3 _ _ _ _ _ at c.loop-r.invariant.4 (stops _ _ _ _ _ _ _ _ run full) in let all = head-turn _ _ _ _ _ _ _ _ _ c.round.invariant.2 c.round-test.true (stops _ _ _ _ _ _ _ _ job full) in
-    record
-    { filled = round_filled _ _ _ _ _ _ _ _ (stops _ _ _ _ _ _ _ _ all full)
-    ; table_len_unchanged = long
+    record {
+      filled = round_filled _ _ _ _ _ _ _ _ (stops _ _ _ _ _ _ _ _ all full);
+      table_len_unchanged = long;
     }

@@ -9,9 +9,9 @@ last_fresh-requires c = (c.requires.2, c.requires.3)
 pub returns-then-has_state : goal.returns-then-has_state
 unfolding first_word
 returns-then-has_state c =
-    record
-    { value = rw (sym c.has_state.ensures ∙ c.if-has_state.true)
-    ; settled_from = c.last_fresh.ensures
+    record {
+      value = rw (sym c.has_state.ensures ∙ c.if-has_state.true);
+      settled_from = c.last_fresh.ensures;
     }
 
 pub last_fresh-requires-2 : goal.last_fresh-requires-2
@@ -20,7 +20,7 @@ last_fresh-requires-2 c = (omega (arith, c.requires.1, c.requires.2), omega (ari
 pub returns : goal.returns
 unfolding first_word
 returns c =
-    record
-    { value = rw (sym c.has_state.ensures ∙ c.if-has_state.false)
-    ; settled_from = c.last_fresh-2.ensures
+    record {
+      value = rw (sym c.has_state.ensures ∙ c.if-has_state.false);
+      settled_from = c.last_fresh-2.ensures;
     }

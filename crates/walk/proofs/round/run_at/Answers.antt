@@ -5,10 +5,10 @@ use Rattle.walk.proofs.round.run_at.Goals as goal
 
 pub returns-then-rules-at-eq0 : goal.returns-then-rules-at-eq0
 returns-then-rules-at-eq0 c =
-    record
-    { finished = λ g old birthdate n s h pl ag li w past. rw (← popped g old birthdate n _ _ c.args.work.now c.args.table.now _ c.args.memo.now s h c.args.r c.requires.1 c.joined-passed.result c.joined-passed.ensures c.if-rules-at-eq0.true c.args.i) (c.rules_after.ensures.finished g old birthdate n s h pl ag li w (passed-some g old birthdate n _ _ c.args.work.now c.args.table.now _ c.args.memo.now s h c.args.r c.requires.1 c.joined-passed.result c.joined-passed.ensures) (popped-past g old birthdate n _ _ c.args.work.now c.args.table.now _ c.args.memo.now s h c.args.r c.requires.1 c.joined-passed.result c.joined-passed.ensures w c.if-rules-at-eq0.true _ past))
-    ; table_len_unchanged = c.rules_after.ensures.table_len_unchanged
-    ; memo_len_unchanged = c.rules_after.ensures.memo_len_unchanged
+    record {
+      finished = λ g old birthdate n s h pl ag li w past. rw (← popped g old birthdate n _ _ c.args.work.now c.args.table.now _ c.args.memo.now s h c.args.r c.requires.1 c.joined-passed.result c.joined-passed.ensures c.if-rules-at-eq0.true c.args.i) (c.rules_after.ensures.finished g old birthdate n s h pl ag li w (passed-some g old birthdate n _ _ c.args.work.now c.args.table.now _ c.args.memo.now s h c.args.r c.requires.1 c.joined-passed.result c.joined-passed.ensures) (popped-past g old birthdate n _ _ c.args.work.now c.args.table.now _ c.args.memo.now s h c.args.r c.requires.1 c.joined-passed.result c.joined-passed.ensures w c.if-rules-at-eq0.true _ past));
+      table_len_unchanged = c.rules_after.ensures.table_len_unchanged;
+      memo_len_unchanged = c.rules_after.ensures.memo_len_unchanged;
     }
 
 pub runs_with-requires : goal.runs_with-requires
@@ -16,8 +16,8 @@ runs_with-requires c = (c.requires.0, c.requires.1, omega (arith, c.requires.2, 
 
 pub returns : goal.returns
 returns c =
-    record
-    { finished = λ g old birthdate n s h pl ag li w past. rw (← written g old birthdate n _ _ c.args.work.now c.args.table.now _ c.args.memo.now s h c.args.r c.requires.1 c.if-rules-at-eq0.false c.args.i) (c.runs_with.ensures.finished g old birthdate n s h pl ag li w (written-past g old birthdate n _ _ c.args.work.now c.args.table.now _ c.args.memo.now s h c.args.r c.requires.1 w c.if-rules-at-eq0.false _ past))
-    ; table_len_unchanged = c.runs_with.ensures.table_len_unchanged
-    ; memo_len_unchanged = c.runs_with.ensures.memo_len_unchanged
+    record {
+      finished = λ g old birthdate n s h pl ag li w past. rw (← written g old birthdate n _ _ c.args.work.now c.args.table.now _ c.args.memo.now s h c.args.r c.requires.1 c.if-rules-at-eq0.false c.args.i) (c.runs_with.ensures.finished g old birthdate n s h pl ag li w (written-past g old birthdate n _ _ c.args.work.now c.args.table.now _ c.args.memo.now s h c.args.r c.requires.1 w c.if-rules-at-eq0.false _ past));
+      table_len_unchanged = c.runs_with.ensures.table_len_unchanged;
+      memo_len_unchanged = c.runs_with.ensures.memo_len_unchanged;
     }

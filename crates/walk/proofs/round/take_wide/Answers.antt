@@ -8,7 +8,7 @@ add_runs-requires c = (c.requires.0, c.requires.1, c.requires.2, c.requires.3, r
 
 pub returns : goal.returns
 returns c =
-    record
-    { filled = λ g es n held good ranged work table past. c.add_runs.ensures.filled g es n held good ranged work table past c.late_of-late.ensures (c.set_fresh.ensures.marked refl) (heads-placed g _ _ held good _ _ _ (c.set_places.ensures.placed_to refl c.requires.0.states (letters-few g _ _ held good))) (zeros-blank 24576)
-    ; table_len_unchanged = c.add_runs.ensures.table_len_unchanged
+    record {
+      filled = λ g es n held good ranged work table past. c.add_runs.ensures.filled g es n held good ranged work table past c.late_of-late.ensures (c.set_fresh.ensures.marked refl) (heads-placed g _ _ held good _ _ _ (c.set_places.ensures.placed_to refl c.requires.0.states (letters-few g _ _ held good))) (zeros-blank 24576);
+      table_len_unchanged = c.add_runs.ensures.table_len_unchanged;
     }
