@@ -1,3 +1,4 @@
+-- Entry i is older, or its state is joined to the states at its letter. Assumes what the contract requires.
 use borrow.Author.Rules.{rules}
 use Prim.Native.Nat.{ℕ}
 use native.Mathlib.Omega.{arith}

@@ -1,10 +1,10 @@
+-- The entries before entry i are noted. What falls is the number of entries left. Assumes what the contract requires.
 use Prim.Native.Nat.{◌-◌}
 use mathlib.Core.Path.{◌≡◌}
 use lib.ListN.{length}
 use Rattle.enumeration.specs.Past.{Marked}
 use Rattle.enumeration.proofs.fresh.set_fresh.Given as goal
 
--- The entries before entry i are noted. What falls is the number of entries left. Assumes what the contract requires.
 abbrev pub invariant-loop-i : goal.invariant-loop-i
 invariant-loop-i l = (length l.fresh ≡ length l.initial.fresh) × (length l.initial.fresh ≡ 256 → Marked l.work l.fresh l.late l.i)
 

@@ -1,3 +1,5 @@
+-- What is found are the ends of the rule's runs, each in an entry of an area that has no other; their sets are kept as its list. Both
+-- areas are cleared, so that the next rule finds them empty. Assumes what the contract requires.
 use Prim.Native.Nat.{◌*◌}
 use native.Mathlib.Omega.{arith}
 use mathlib.Core.Path.{refl, ◌∙◌}

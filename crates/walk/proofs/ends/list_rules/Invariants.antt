@@ -1,3 +1,5 @@
+-- Before and after each rule both areas are zero, every list ends before the room begins, and what is listed is right. Assumes what
+-- the contract requires.
 use Prim.Native.Nat.{ℕ, ◌*◌, ◌-◌, ◌<◌, ◌≤◌}
 use borrow.Author.Rules.{rules}
 use mathlib.Core.Path.{◌≡◌}
@@ -13,8 +15,6 @@ use Rattle.enumeration.specs.Places.{Placing}
 use Rattle.enumeration.specs.Lists.{Listed, Zero, Bounded}
 use Rattle.walk.proofs.ends.list_rules.Given as goal
 
--- Before and after each rule both areas are zero, every list ends before the room begins, and what is listed is right. Assumes what
--- the contract requires.
 abbrev pub invariant-loop-r : goal.invariant-loop-r
 invariant-loop-r l = (length l.lists ≡ length l.initial.lists) × (length l.spans ≡ length l.initial.spans) × (length l.sets ≡ 3072) × (length l.memo ≡ 3072) × (l.room ≤ 4096) × (l.r ≤ l.job.end) × (l.r < l.job.end → of_head l.job.state l.job.letter (rule_at l.rules (l.r * 6) 0) ≡ true) × Zero l.sets × Zero l.memo × Bounded l.spans l.room × ((g : PushdownGame) (old : List Entry) (birthdate : ℕ) → Stands g old birthdate l.job l.rules l.work → Placing g l.work l.job.count l.places → Aging g old birthdate l.job l.fresh → Listed g old l.lists l.spans)
 

@@ -1,3 +1,10 @@
+-- Each loop has a list of its own: the runs of a job, the jobs of a head, the turns of heads. Its invariant: growing the table by the whole
+-- list from where the loop began is growing it by the rest from now (`Turning`), whatever game the areas stand for. Runs that begin
+-- with an entry of another head give nothing, so that they are taken from the first entry of the head to its last. A loop that ends
+-- has added its list, which is one part of the list around it. Once an entry was beyond the table nothing changes any more, so that
+-- each of the three lists is added where the nest is left. With each list goes what older entries give of it, which is held, so that
+-- a job without an entry of the last round is passed over. What is listed is right at any time (`Rightly`). What falls is how many runs, rules and heads are left.
+-- Assumes what the contract requires.
 use Prim.Native.Nat.{◌*◌, ◌-◌, ◌<◌, ◌≤◌}
 use mathlib.Core.Path.{◌≡◌}
 use mathlib.Core.Bool.{true}
@@ -9,13 +16,6 @@ use Rattle.game.specs.Stored.{rule_at}
 use Rattle.walk.proofs.Rounding.{runs_from, rules_from, turn_at, turns_from, job_entries, Rightly, Turning, ends}
 use Rattle.walk.proofs.round.add_runs.Given as goal
 
--- Each loop has a list of its own: the runs of a job, the jobs of a head, the turns of heads. Its invariant: growing the table by the whole
--- list from where the loop began is growing it by the rest from now (`Turning`), whatever game the areas stand for. Runs that begin
--- with an entry of another head give nothing, so that they are taken from the first entry of the head to its last. A loop that ends
--- has added its list, which is one part of the list around it. Once an entry was beyond the table nothing changes any more, so that
--- each of the three lists is added where the nest is left. With each list goes what older entries give of it, which is held, so that
--- a job without an entry of the last round is passed over. What is listed is right at any time (`Rightly`). What falls is how many runs, rules and heads are left.
--- Assumes what the contract requires.
 abbrev pub invariant-loop-i : goal.invariant-loop-i
 invariant-loop-i l = (length l.table ≡ length l.initial.table) × (length l.memo ≡ length l.initial.memo) × Turning l.sizes l.rules l.places l.fresh l.work l.old l.birthdate l.late (runs_from l.birthdate l.job l.r (runs_of l.rules l.r l.old) 0) (runs_from l.birthdate l.job l.r (runs_of l.rules l.r l.old) l.i) (job_entries l.birthdate l.p l.a l.r) (job_entries l.birthdate l.p l.a l.r) l.initial.table l.initial.count l.initial.memo l.table l.count l.memo
 

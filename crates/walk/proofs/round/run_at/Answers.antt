@@ -1,3 +1,5 @@
+-- A rule that writes nothing has one run, whose end is the state that it goes to; any other has those that begin with an entry of
+-- the old round. Either way the function that is called leaves the list of run i. Assumes what the contract requires.
 use native.Mathlib.Omega.{arith}
 use Rattle.walk.proofs.FirstRuns.{runs-written, passed-some, popped, popped-past, written, written-past}
 use borrow.Author.Rules.{rules}

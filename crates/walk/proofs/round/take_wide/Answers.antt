@@ -1,3 +1,5 @@
+-- The places are those of every head, the entries of the last round are noted for every letter, the memo is 8,192 lines of three zero
+-- words, which name nothing, and no rule is listed. Assumes what the contract requires.
 use mathlib.Core.Path.{refl}
 use Rattle.walk.proofs.Listing.{zero-at}
 use Rattle.walk.proofs.RoundTurns.{zeros-blank, letters-few, heads-placed}
