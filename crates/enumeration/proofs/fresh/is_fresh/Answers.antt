@@ -4,7 +4,6 @@ use lib.ListN.{get_or}
 use borrow.Author.Tests.{not-false, eqb-true}
 use Rattle.game.specs.Sets.{has}
 use Rattle.game.specs.ListLaws.{clash}
-use borrow.Author.Rules.{rules}
 use Rattle.enumeration.proofs.fresh.is_fresh.Goals as goal
 
 pub returns-then-not-is_rule_of : goal.returns-then-not-is_rule_of

@@ -5,15 +5,6 @@ use Rattle.enumeration.proofs.fresh.set_fresh.Goals as goal
 pub loop-i-init : goal.loop-i-init
 loop-i-init c = (refl, λ long k l. absurd (omega arith))
 
-pub mark-requires : goal.mark-requires
-mark-requires c = omega (arith, c.requires, c.loop-i-test.true)
-
-pub overflow_add-i : goal.overflow_add-i
-overflow_add-i c = omega (arith, c.loop-i-test.true)
-
-pub loop-i-smaller : goal.loop-i-smaller
-loop-i-smaller c = omega (arith, c.loop-i-test.true)
-
 pub loop-i-preserved : goal.loop-i-preserved
 loop-i-preserved c = (c.mark.ensures.fresh_len_unchanged ∙ c.loop-i.invariant.0, λ long. c.mark.ensures.marked (c.loop-i.invariant.0 ∙ long) (c.loop-i.invariant.1 long))
 

@@ -6,18 +6,6 @@ use Rattle.enumeration.proofs.lists.clear_spans.Goals as goal
 pub loop-i-init : goal.loop-i-init
 loop-i-init c = none-cleared _
 
-pub offset_bounds-spans-i : goal.offset_bounds-spans-i
-offset_bounds-spans-i c = omega (arith, c.loop-i.invariant.long, c.well_formed)
-
-pub bounds-spans-i : goal.bounds-spans-i
-bounds-spans-i c = omega arith
-
-pub overflow_add-i : goal.overflow_add-i
-overflow_add-i c = omega (arith, c.loop-i.invariant.long, c.well_formed)
-
-pub loop-i-smaller : goal.loop-i-smaller
-loop-i-smaller c = omega (arith, c.loop-i.invariant.long)
-
 pub loop-i-preserved : goal.loop-i-preserved
 loop-i-preserved c = next-cleared _ c.loop-i.i _ c.loop-i.invariant (omega (arith, c.loop-i.invariant.long))
 

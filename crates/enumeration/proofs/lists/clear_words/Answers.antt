@@ -6,18 +6,6 @@ use Rattle.enumeration.proofs.lists.clear_words.Goals as goal
 pub loop-i-init : goal.loop-i-init
 loop-i-init c = (omega arith, none-cleared _)
 
-pub offset_bounds-words-i : goal.offset_bounds-words-i
-offset_bounds-words-i c = omega (arith, c.requires, c.well_formed)
-
-pub bounds-words-i : goal.bounds-words-i
-bounds-words-i c = omega (arith, c.requires, c.loop-i.invariant.1.long)
-
-pub overflow_add-i : goal.overflow_add-i
-overflow_add-i c = omega arith
-
-pub loop-i-smaller : goal.loop-i-smaller
-loop-i-smaller c = omega arith
-
 pub loop-i-preserved : goal.loop-i-preserved
 loop-i-preserved c = (omega arith, next-cleared _ c.loop-i.i _ c.loop-i.invariant.1 (omega (arith, c.requires)))
 

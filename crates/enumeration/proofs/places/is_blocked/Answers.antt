@@ -1,6 +1,5 @@
 use native.Mathlib.Omega.{arith}
 use mathlib.Core.Path.{refl}
-use mathlib.Core.Bool.{true}
 use lib.Pow.{pow_pos}
 use Rattle.game.specs.ListLaws.{clash}
 use Rattle.enumeration.proofs.Parts.{shifted_one, smaller}
@@ -24,12 +23,6 @@ returns-then-end_at-start_at c =
       blocked = λ e some. record { state = c.highest-q.result; member = c.loop-left.invariant _ (c.highest-q.ensures.member (omega (arith, c.loop-left-test.true))); first = c.start_at.result; last = c.end_at.result; starts = c.start_at.ensures.by_index; ends = c.end_at.ensures.by_index; none = c.if-end_at-start_at.true };
       set_nonzero = λ e. clash refl e;
     }
-
-pub overflow_cast-left : goal.overflow_cast-left
-overflow_cast-left c = omega arith
-
-pub overflow_shl-left : goal.overflow_shl-left
-overflow_shl-left c = omega (arith, c.highest-q.ensures.small)
 
 pub nonzero_rem-left : goal.nonzero_rem-left
 nonzero_rem-left c = rw (shifted_one _ c.highest-q.ensures.small) (omega (arith, pow_pos c.highest-q.result))

@@ -5,12 +5,6 @@ use Rattle.enumeration.proofs.places.set_places.Goals as goal
 pub loop-q-init : goal.loop-q-init
 loop-q-init c = (refl, omega arith, λ long low few p b lb l. absurd (omega arith))
 
-pub overflow_add-q : goal.overflow_add-q
-overflow_add-q c = omega arith
-
-pub loop-q-smaller : goal.loop-q-smaller
-loop-q-smaller c = omega arith
-
 pub loop-q-preserved : goal.loop-q-preserved
 loop-q-preserved c = (c.set_letters.ensures.places_len_unchanged ∙ c.loop-q.invariant.0, omega arith, λ long low few. c.set_letters.ensures.placed_to (c.loop-q.invariant.0 ∙ long) (omega arith) few (c.loop-q.invariant.2 long low few))
 

@@ -18,32 +18,11 @@ use lib.Pow.{pow_pos}
 use Prim.Native.Nat.{ℕ}
 use Rattle.enumeration.proofs.runs.+runs.Goals as goal
 
-pub pass_states-overflow_mul-below : goal.pass_states-overflow_mul-below
-pass_states-overflow_mul-below t c = omega arith
-
-pub pass_states-overflow_add-below : goal.pass_states-overflow_add-below
-pass_states-overflow_add-below t c = omega arith
-
-pub pass_states-bounds-rules-r : goal.pass_states-bounds-rules-r
-pass_states-bounds-rules-r t c = omega arith
-
 pub pass_states-loop-job-init : goal.pass_states-loop-job-init
 pass_states-loop-job-init t c = (refl, refl, bounded-start _ _ _ c.requires.2 (omega arith) c.start_at-i.ensures.upper_bound, λ g old b n s h pl ag li whole small past. walk-starts g old b n _ _ _ _ _ _ _ s h _ _ _ _ c.highest.ensures c.requires.2 small (starts-below g old b n _ _ _ _ _ _ s h _ c.requires.1 _ pl _ _ small c.requires.2 c.highest.ensures _ (c.start_at-i.ensures.by_index _)) _ past _ _ _ _)
 
-pub pass_states-overflow_cast-rest : goal.pass_states-overflow_cast-rest
-pass_states-overflow_cast-rest t c = omega arith
-
-pub pass_states-overflow_shl-rest : goal.pass_states-overflow_shl-rest
-pass_states-overflow_shl-rest t c = omega arith
-
 pub pass_states-nonzero_rem-rest : goal.pass_states-nonzero_rem-rest
 pass_states-nonzero_rem-rest t c = rw (shifted_one _ c.highest-q.ensures.small) (omega (arith, pow_pos c.highest-q.result))
-
-pub pass_states-older_below-passing-requires : goal.pass_states-older_below-passing-requires
-pass_states-older_below-passing-requires t c = omega (arith, c.requires.0.few, c.requires.1)
-
-pub pass_states-next_open-found-requires : goal.pass_states-next_open-found-requires
-pass_states-next_open-found-requires t c = omega (arith, c.end_at-end.ensures.upper_bound, c.requires.0.entries)
 
 pub pass_states-returns-then-depth-eq0 : goal.pass_states-returns-then-depth-eq0
 pass_states-returns-then-depth-eq0 t c =
@@ -52,9 +31,6 @@ pass_states-returns-then-depth-eq0 t c =
       table_len_unchanged = c.loop-job.invariant.0;
       memo_len_unchanged = c.loop-job.invariant.1;
     }
-
-pub pass_states-overflow_sub-depth : goal.pass_states-overflow_sub-depth
-pass_states-overflow_sub-depth t c = omega (arith, c.if-depth-eq0.false)
 
 pub pass_states-offset_bounds-lefts-depth : goal.pass_states-offset_bounds-lefts-depth
 pass_states-offset_bounds-lefts-depth t c = omega (arith, deep _ _ _ _ _ _ _ _ c.loop-job.invariant.2)
@@ -86,27 +62,6 @@ pass_states-loop-job-smaller-then-end-found t c = falls-before _ _ _ _ (omega (a
 pub pass_states-loop-job-preserved-then-end-found : goal.pass_states-loop-job-preserved-then-end-found
 pass_states-loop-job-preserved-then-end-found t c = (c.loop-job.invariant.0, search rules, bounded-before _ _ _ _ _ _ _ _ c.loop-job.invariant.2 _ (omega (arith, c.if-depth-eq0.false)), λ g old b n s h pl ag li whole small past. let w = c.loop-job.invariant.3 g old b n s h pl ag li whole small past in walk-back g old b n _ _ _ _ s _ _ _ _ _ _ _ _ _ _ _ _ _ _ w whole (within g old b n _ _ _ _ _ _ s h _ c.requires.1) _ c.highest-q.ensures _ c.tag_of-tag.ensures _ (rest-is _ _ c.highest-q.ensures) c.args.fresh.now ag c.fresh_on-new.result (c.fresh_on-new.ensures ∙ ap (λ (a : ℕ). get_or c.args.fresh.now a 0) (below-is g old b n _ _ _ _ _ _ s h _ c.requires.1)) c.older_below-passing.result c.older_below-passing.ensures _ _ c.next_open-found.ensures (omega (arith, c.next_open-found.ensures.within, c.loop-job.invariant.2.within, c.end_at-end.ensures.upper_bound)) (ends-below g old b n _ _ _ _ _ _ s h _ c.requires.1 _ pl _ _ w.fit.small w.fit.some c.highest-q.ensures _ (c.end_at-end.ensures.by_index _)) c.if-end-found.true _ c.finish.ensures (omega (arith, c.if-depth-eq0.false)))
 
-pub pass_states-overflow_mul-passed : goal.pass_states-overflow_mul-passed
-pass_states-overflow_mul-passed t c = omega (arith, c.if-end-found.false, c.end_at-end.ensures.upper_bound, c.requires.0.entries, c.well_formed)
-
-pub pass_states-overflow_add-passed : goal.pass_states-overflow_add-passed
-pass_states-overflow_add-passed t c = omega (arith, c.if-end-found.false, c.end_at-end.ensures.upper_bound, c.requires.0.entries, c.well_formed)
-
-pub pass_states-offset_bounds-work-found : goal.pass_states-offset_bounds-work-found
-pass_states-offset_bounds-work-found t c = omega (arith, c.if-end-found.false, c.end_at-end.ensures.upper_bound, c.requires.0.entries, c.well_formed)
-
-pub pass_states-bounds-work-found : goal.pass_states-bounds-work-found
-pass_states-bounds-work-found t c = omega (arith, c.if-end-found.false, c.end_at-end.ensures.upper_bound, c.requires.0.entries)
-
-pub pass_states-overflow_mul-found : goal.pass_states-overflow_mul-found
-pass_states-overflow_mul-found t c = omega (arith, c.if-end-found.false, c.end_at-end.ensures.upper_bound, c.requires.0.entries, c.well_formed)
-
-pub pass_states-offset_bounds-work-found-in-loop-job : goal.pass_states-offset_bounds-work-found-in-loop-job
-pass_states-offset_bounds-work-found-in-loop-job t c = omega (arith, c.if-end-found.false, c.end_at-end.ensures.upper_bound, c.requires.0.entries, c.well_formed)
-
-pub pass_states-bounds-work-found-in-loop-job : goal.pass_states-bounds-work-found-in-loop-job
-pass_states-bounds-work-found-in-loop-job t c = omega (arith, c.if-end-found.false, c.end_at-end.ensures.upper_bound, c.requires.0.entries)
-
 pub pass_states-rules_after-filled-requires : goal.pass_states-rules_after-filled-requires
 pass_states-rules_after-filled-requires t c = (omega arith, (c.requires.0, c.requires.1))
 
@@ -117,9 +72,6 @@ pass_states-returns-then-table-filled t c =
       table_len_unchanged = c.rules_after-filled.ensures.table_len_unchanged ∙ c.loop-job.invariant.0;
       memo_len_unchanged = c.rules_after-filled.ensures.memo_len_unchanged ∙ c.loop-job.invariant.1;
     }
-
-pub pass_states-overflow_add-i : goal.pass_states-overflow_add-i
-pass_states-overflow_add-i t c = omega (arith, c.if-end-found.false, c.end_at-end.ensures.upper_bound, c.requires.0.entries)
 
 pub pass_states-loop-job-smaller-then-rest-eq0 : goal.pass_states-loop-job-smaller-then-rest-eq0
 pass_states-loop-job-smaller-then-rest-eq0 t c = falls-here _ _ _ _ _ c.next_open-found.ensures.after (omega (arith, c.if-end-found.false, c.end_at-end.ensures.upper_bound))
@@ -138,9 +90,6 @@ pass_states-offset_bounds-unions-depth-in-loop-job t c = omega (arith, deep _ _ 
 
 pub pass_states-bounds-unions-depth-in-loop-job : goal.pass_states-bounds-unions-depth-in-loop-job
 pass_states-bounds-unions-depth-in-loop-job t c = omega (arith, deep _ _ _ _ _ _ _ _ c.loop-job.invariant.2, c.loop-job.invariant.2.unions-long)
-
-pub pass_states-overflow_add-nexts : goal.pass_states-overflow_add-nexts
-pass_states-overflow_add-nexts t c = omega (arith, c.if-end-found.false, c.end_at-end.ensures.upper_bound, c.requires.0.entries)
 
 pub pass_states-offset_bounds-nexts-depth-in-loop-job : goal.pass_states-offset_bounds-nexts-depth-in-loop-job
 pass_states-offset_bounds-nexts-depth-in-loop-job t c = omega (arith, deep _ _ _ _ _ _ _ _ c.loop-job.invariant.2)
@@ -163,9 +112,6 @@ pass_states-loop-job-smaller t c = falls-after _ _ _ _ _ _ (deep _ _ _ _ _ _ _ _
 pub pass_states-loop-job-preserved : goal.pass_states-loop-job-preserved
 pass_states-loop-job-preserved t c = (c.loop-job.invariant.0, c.loop-job.invariant.1, bounded-after _ _ _ _ _ _ _ _ c.loop-job.invariant.2 _ c.highest-q.ensures _ _ _ _ _ (rest-is _ _ c.highest-q.ensures) c.if-rest-eq0.false (omega (arith, c.if-end-found.false, c.end_at-end.ensures.upper_bound)) c.start_at-i-in-loop-job.ensures.upper_bound, λ g old b n s h pl ag li whole small past. let w = c.loop-job.invariant.3 g old b n s h pl ag li whole small past in walk-opens g old b n _ _ _ _ s _ _ _ _ _ _ _ _ _ _ _ _ _ _ w whole (within g old b n _ _ _ _ _ _ s h _ c.requires.1) _ c.highest-q.ensures _ c.tag_of-tag.ensures _ (rest-is _ _ c.highest-q.ensures) c.args.fresh.now ag c.fresh_on-new.result (c.fresh_on-new.ensures ∙ ap (λ (a : ℕ). get_or c.args.fresh.now a 0) (below-is g old b n _ _ _ _ _ _ s h _ c.requires.1)) c.older_below-passing.result c.older_below-passing.ensures _ _ c.next_open-found.ensures (omega (arith, c.next_open-found.ensures.within, c.loop-job.invariant.2.within, c.end_at-end.ensures.upper_bound)) (ends-below g old b n _ _ _ _ _ _ s h _ c.requires.1 _ pl _ _ w.fit.small w.fit.some c.highest-q.ensures _ (c.end_at-end.ensures.by_index _)) c.if-end-found.false (below-small g old b n _ _ _ _ _ _ s h _ c.requires.1 _ pl) _ refl c.if-rest-eq0.false (deep _ _ _ _ _ _ _ _ c.loop-job.invariant.2) c.loop-job.invariant.2.lefts-long c.loop-job.invariant.2.unions-long c.loop-job.invariant.2.nexts-long c.loop-job.invariant.2.limits-long _ _ c.highest-in-loop-job.ensures (starts-below g old b n _ _ _ _ _ _ s h _ c.requires.1 _ pl _ _ (rest_below _ _ _ _ w.fit.small (rest-is _ _ c.highest-q.ensures) w.fit.some c.highest-q.ensures) (omega (arith, c.if-rest-eq0.false)) c.highest-in-loop-job.ensures _ (c.start_at-i-in-loop-job.ensures.by_index _)) c.still_late-still.result c.still_late-still.ensures)
 
-pub rules_after-older_below-requires : goal.rules_after-older_below-requires
-rules_after-older_below-requires t c = omega (arith, c.requires.0.few, c.requires.1)
-
 pub rules_after-returns-then-older_below-gt0 : goal.rules_after-returns-then-older_below-gt0
 rules_after-returns-then-older_below-gt0 t c =
     record {
@@ -182,9 +128,6 @@ rules_after-returns-then-is_finished t c =
       memo_len_unchanged = refl;
     }
 
-pub rules_after-overflow_add-r : goal.rules_after-overflow_add-r
-rules_after-overflow_add-r t c = omega arith
-
 pub rules_after-rules_from-filled-requires : goal.rules_after-rules_from-filled-requires
 rules_after-rules_from-filled-requires t c = (omega (arith, c.requires.1), (c.requires.0, omega (arith, c.requires.1)))
 
@@ -196,20 +139,8 @@ rules_after-returns t c =
       memo_len_unchanged = search rules;
     }
 
-pub rules_by-list_end-end-requires : goal.rules_by-list_end-end-requires
-rules_by-list_end-end-requires t c = omega (arith, c.requires.0.few, c.requires.1)
-
-pub rules_by-list_start-i-requires : goal.rules_by-list_start-i-requires
-rules_by-list_start-i-requires t c = omega (arith, c.requires.0.few, c.requires.1)
-
 pub rules_by-loop-i-init : goal.rules_by-loop-i-init
 rules_by-loop-i-init t c = (refl, refl, omega (arith, c.list_start-i.ensures), λ g old b n s h pl ag li whole. list-starts c.args.lists.now c.args.spans.now c.args.r g old b n _ _ _ c.args.union _ _ _ s h _ c.list_start-i.ensures)
-
-pub rules_by-offset_bounds-lists-i : goal.rules_by-offset_bounds-lists-i
-rules_by-offset_bounds-lists-i t c = omega arith
-
-pub rules_by-bounds-lists-i : goal.rules_by-bounds-lists-i
-rules_by-bounds-lists-i t c = omega (arith, c.loop-i-test.true, c.list_end-end.ensures)
 
 pub rules_by-rules_after-filled-requires : goal.rules_by-rules_after-filled-requires
 rules_by-rules_after-filled-requires t c = (omega arith, (c.requires.0, c.requires.1))
@@ -221,12 +152,6 @@ rules_by-returns-then-table-filled t c =
       table_len_unchanged = c.rules_after-filled.ensures.table_len_unchanged ∙ c.loop-i.invariant.0;
       memo_len_unchanged = c.rules_after-filled.ensures.memo_len_unchanged ∙ c.loop-i.invariant.1;
     }
-
-pub rules_by-overflow_add-i : goal.rules_by-overflow_add-i
-rules_by-overflow_add-i t c = omega arith
-
-pub rules_by-loop-i-smaller : goal.rules_by-loop-i-smaller
-rules_by-loop-i-smaller t c = omega arith
 
 pub rules_by-loop-i-preserved : goal.rules_by-loop-i-preserved
 rules_by-loop-i-preserved t c = (c.rules_after-filled.ensures.table_len_unchanged ∙ c.loop-i.invariant.0, c.rules_after-filled.ensures.memo_len_unchanged ∙ c.loop-i.invariant.1, omega (arith, c.loop-i.invariant.2), λ g old b n s h pl ag li whole. let k = c.loop-i.invariant.3 g old b n s h pl ag li whole in list-next c.args.lists.now c.args.spans.now c.args.r g old b n _ _ _ c.args.union s c.loop-i.i _ _ _ k c.loop-i.invariant.2 (omega (arith, c.loop-i-test.true, c.list_end-end.ensures)) _ _ _ (c.rules_after-filled.ensures.finished g old b n k.now k.entered pl ag li whole (adds c.args.lists.now c.args.spans.now c.args.r g old li (omega (arith, h.stands.last, c.requires.1)) c.loop-i.i c.loop-i.invariant.2 (omega (arith, c.loop-i-test.true, c.list_end-end.ensures)) c.args.union) (λ none. absurd (omega (arith, none)))))
@@ -247,21 +172,6 @@ rules_from-returns-then-job-r t c =
       memo_len_unchanged = refl;
     }
 
-pub rules_from-overflow_mul-at : goal.rules_from-overflow_mul-at
-rules_from-overflow_mul-at t c = omega arith
-
-pub rules_from-overflow_add-at : goal.rules_from-overflow_add-at
-rules_from-overflow_add-at t c = omega arith
-
-pub rules_from-bounds-rules-at : goal.rules_from-bounds-rules-at
-rules_from-bounds-rules-at t c = omega arith
-
-pub rules_from-overflow_add-at-then-rules-at-eq0 : goal.rules_from-overflow_add-at-then-rules-at-eq0
-rules_from-overflow_add-at-then-rules-at-eq0 t c = omega arith
-
-pub rules_from-bounds-rules-at-then-rules-at-eq0 : goal.rules_from-bounds-rules-at-then-rules-at-eq0
-rules_from-bounds-rules-at-then-rules-at-eq0 t c = omega arith
-
 pub rules_from-rules_after-requires : goal.rules_from-rules_after-requires
 rules_from-rules_after-requires t c = (omega (arith, c.next_rule-r.ensures.after, c.if-job-r.false), (c.requires.0, c.if-job-r.false))
 
@@ -273,9 +183,6 @@ rules_from-returns-then-rules-at-eq0 t c =
       memo_len_unchanged = c.rules_after.ensures.memo_len_unchanged;
     }
 
-pub rules_from-is_listed-requires : goal.rules_from-is_listed-requires
-rules_from-is_listed-requires t c = omega (arith, c.requires.0.few, c.if-job-r.false)
-
 pub rules_from-rules_by-requires : goal.rules_from-rules_by-requires
 rules_from-rules_by-requires t c = (omega (arith, c.next_rule-r.ensures.after, c.if-job-r.false), (c.requires.0, c.if-job-r.false))
 
@@ -286,30 +193,6 @@ rules_from-returns-then-is_listed t c =
       table_len_unchanged = c.rules_by.ensures.table_len_unchanged;
       memo_len_unchanged = c.rules_by.ensures.memo_len_unchanged;
     }
-
-pub rules_from-overflow_add-at-2 : goal.rules_from-overflow_add-at-2
-rules_from-overflow_add-at-2 t c = omega arith
-
-pub rules_from-bounds-rules-at-2 : goal.rules_from-bounds-rules-at-2
-rules_from-bounds-rules-at-2 t c = omega arith
-
-pub rules_from-overflow_add-at-3 : goal.rules_from-overflow_add-at-3
-rules_from-overflow_add-at-3 t c = omega arith
-
-pub rules_from-bounds-rules-at-3 : goal.rules_from-bounds-rules-at-3
-rules_from-bounds-rules-at-3 t c = omega arith
-
-pub rules_from-overflow_add-at-4 : goal.rules_from-overflow_add-at-4
-rules_from-overflow_add-at-4 t c = omega arith
-
-pub rules_from-bounds-rules-at-4 : goal.rules_from-bounds-rules-at-4
-rules_from-bounds-rules-at-4 t c = omega arith
-
-pub rules_from-overflow_add-at-5 : goal.rules_from-overflow_add-at-5
-rules_from-overflow_add-at-5 t c = omega arith
-
-pub rules_from-bounds-rules-at-5 : goal.rules_from-bounds-rules-at-5
-rules_from-bounds-rules-at-5 t c = omega arith
 
 pub rules_from-loop-i-init : goal.rules_from-loop-i-init
 rules_from-loop-i-init t c = (refl, refl, λ g old b n s h pl ag li late past. scan-from g old b n _ _ _ _ _ _ (begins-nothing g old _ _ _ _ c.args.union _ _ (to_is g old b n _ _ _ _ _ _ s h _ c.if-job-r.false) (above-is g old b n _ _ _ _ _ _ s h _ c.if-job-r.false)) _ _ _ s h _ (c.start_at-i.ensures.by_index _ (above-placed g old b n _ _ _ _ _ _ s h _ c.if-job-r.false _ pl)))
@@ -325,12 +208,6 @@ rules_from-returns-then-table-filled t c =
       memo_len_unchanged = c.runs_with-filled.ensures.memo_len_unchanged ∙ c.loop-i.invariant.1;
     }
 
-pub rules_from-overflow_add-i : goal.rules_from-overflow_add-i
-rules_from-overflow_add-i t c = omega arith
-
-pub rules_from-loop-i-smaller : goal.rules_from-loop-i-smaller
-rules_from-loop-i-smaller t c = omega arith
-
 pub rules_from-loop-i-preserved : goal.rules_from-loop-i-preserved
 rules_from-loop-i-preserved t c = (c.runs_with-filled.ensures.table_len_unchanged ∙ c.loop-i.invariant.0, c.runs_with-filled.ensures.memo_len_unchanged ∙ c.loop-i.invariant.1, λ g old b n s h pl ag li late past. let k = c.loop-i.invariant.2 g old b n s h pl ag li late past in scan-next g old b n _ _ _ _ s _ _ _ _ k (omega (arith, c.loop-i-test.true, c.end_at-end.ensures.upper_bound)) _ _ _ (begun g old b n _ _ _ _ _ _ k.now k.entered _ _ _ (c.runs_with-filled.ensures.finished g old b n k.now k.entered pl ag li (job_of g old b n _ _ _ _ _ _ s h _ c.args.union _ c.next_rule-r.ensures c.if-job-r.false late) (λ some. let p = past-writes g old b n _ _ _ _ _ _ s h _ c.args.union _ c.next_rule-r.ensures c.if-job-r.false _ past (λ z. c.if-rules-at-eq0.false (count-is g old b n _ _ _ _ _ _ s h _ c.if-job-r.false ∙ z)) some in (p.0, k.kept _ p.1)))))
 
@@ -342,15 +219,6 @@ rules_from-returns t c =
       memo_len_unchanged = c.loop-i.invariant.1;
     }
 
-pub runs_with-overflow_mul-at : goal.runs_with-overflow_mul-at
-runs_with-overflow_mul-at t c = omega arith
-
-pub runs_with-overflow_add-at : goal.runs_with-overflow_add-at
-runs_with-overflow_add-at t c = omega arith
-
-pub runs_with-bounds-rules-at : goal.runs_with-bounds-rules-at
-runs_with-bounds-rules-at t c = omega arith
-
 pub runs_with-returns-then-state-rules : goal.runs_with-returns-then-state-rules
 runs_with-returns-then-state-rules t c =
     record {
@@ -359,12 +227,6 @@ runs_with-returns-then-state-rules t c =
       memo_len_unchanged = refl;
     }
 
-pub runs_with-overflow_add-at-2 : goal.runs_with-overflow_add-at-2
-runs_with-overflow_add-at-2 t c = omega arith
-
-pub runs_with-bounds-rules-at-2 : goal.runs_with-bounds-rules-at-2
-runs_with-bounds-rules-at-2 t c = omega arith
-
 pub runs_with-returns-then-letter-rules : goal.runs_with-returns-then-letter-rules
 runs_with-returns-then-letter-rules t c =
     record {
@@ -372,12 +234,6 @@ runs_with-returns-then-letter-rules t c =
       table_len_unchanged = refl;
       memo_len_unchanged = refl;
     }
-
-pub runs_with-overflow_add-at-3 : goal.runs_with-overflow_add-at-3
-runs_with-overflow_add-at-3 t c = omega arith
-
-pub runs_with-bounds-rules-at-3 : goal.runs_with-bounds-rules-at-3
-runs_with-bounds-rules-at-3 t c = omega arith
 
 pub runs_with-rules_after-requires : goal.runs_with-rules_after-requires
 runs_with-rules_after-requires t c = (omega (arith, c.requires.1), (c.requires.0, c.requires.1))
@@ -390,12 +246,6 @@ runs_with-returns-then-rules-at-eq1 t c =
       memo_len_unchanged = c.rules_after.ensures.memo_len_unchanged;
     }
 
-pub runs_with-overflow_add-at-4 : goal.runs_with-overflow_add-at-4
-runs_with-overflow_add-at-4 t c = omega arith
-
-pub runs_with-bounds-rules-at-4 : goal.runs_with-bounds-rules-at-4
-runs_with-bounds-rules-at-4 t c = omega arith
-
 pub runs_with-returns-then-is_blocked : goal.runs_with-returns-then-is_blocked
 runs_with-returns-then-is_blocked t c =
     record {
@@ -403,15 +253,6 @@ runs_with-returns-then-is_blocked t c =
       table_len_unchanged = refl;
       memo_len_unchanged = refl;
     }
-
-pub runs_with-overflow_add-at-5 : goal.runs_with-overflow_add-at-5
-runs_with-overflow_add-at-5 t c = omega arith
-
-pub runs_with-bounds-rules-at-5 : goal.runs_with-bounds-rules-at-5
-runs_with-bounds-rules-at-5 t c = omega arith
-
-pub runs_with-older_below-requires : goal.runs_with-older_below-requires
-runs_with-older_below-requires t c = omega (arith, c.requires.0.few, c.requires.1)
 
 pub runs_with-returns-then-older_below-gt0 : goal.runs_with-returns-then-older_below-gt0
 runs_with-returns-then-older_below-gt0 t c =

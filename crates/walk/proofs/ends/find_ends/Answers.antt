@@ -12,36 +12,6 @@ use Rattle.walk.proofs.FirstRuns.{itself}
 use Rattle.walk.proofs.Listing.{listed-none, zero-at}
 use Rattle.walk.proofs.ends.find_ends.Goals as goal
 
-pub alone_of-alone-requires : goal.alone_of-alone-requires
-alone_of-alone-requires c = omega (arith, c.requires.0.few, c.requires.1)
-
-pub overflow_mul-at : goal.overflow_mul-at
-overflow_mul-at c = omega (arith, c.requires.0.few, c.requires.1)
-
-pub overflow_add-at : goal.overflow_add-at
-overflow_add-at c = omega (arith, c.requires.0.few, c.requires.1)
-
-pub bounds-rules-at : goal.bounds-rules-at
-bounds-rules-at c = omega (arith, c.requires.0.ends, c.requires.1)
-
-pub overflow_add-at-2 : goal.overflow_add-at-2
-overflow_add-at-2 c = omega (arith, c.requires.0.few, c.requires.1)
-
-pub bounds-rules-at-2 : goal.bounds-rules-at-2
-bounds-rules-at-2 c = omega (arith, c.requires.0.ends, c.requires.1)
-
-pub overflow_add-at-3 : goal.overflow_add-at-3
-overflow_add-at-3 c = omega (arith, c.requires.0.few, c.requires.1)
-
-pub bounds-rules-at-3 : goal.bounds-rules-at-3
-bounds-rules-at-3 c = omega (arith, c.requires.0.ends, c.requires.1)
-
-pub overflow_add-at-4 : goal.overflow_add-at-4
-overflow_add-at-4 c = omega (arith, c.requires.0.few, c.requires.1)
-
-pub bounds-rules-at-4 : goal.bounds-rules-at-4
-bounds-rules-at-4 c = omega (arith, c.requires.0.ends, c.requires.1)
-
 pub loop-i-init : goal.loop-i-init
 loop-i-init c = let l = its-end c.args.job _ c.args.r c.alone_of-alone.ensures in (refl, refl, λ g old b n s h pl ag whole. scan-from g old b n _ _ _ _ _ _ (begins-nothing g old _ _ _ _ 0 _ _ (to_is g old b n _ _ _ _ _ _ s h _ l) (above-is g old b n _ _ _ _ _ _ s h _ l)) _ _ _ s h _ (c.start_at-i.ensures.by_index _ (above-placed g old b n _ _ _ _ _ _ s h _ l _ pl)))
 
@@ -61,9 +31,6 @@ returns-then-sets-count c =
       sets_len_unchanged = c.runs_with-count.ensures.table_len_unchanged ∙ c.loop-i.invariant.0;
       memo_len_unchanged = c.runs_with-count.ensures.memo_len_unchanged ∙ c.loop-i.invariant.1;
     }
-
-pub loop-i-smaller : goal.loop-i-smaller
-loop-i-smaller c = omega (arith, c.loop-i-test.true)
 
 pub loop-i-preserved : goal.loop-i-preserved
 loop-i-preserved c = (c.runs_with-count.ensures.table_len_unchanged ∙ c.loop-i.invariant.0, c.runs_with-count.ensures.memo_len_unchanged ∙ c.loop-i.invariant.1, λ g old b n s h pl ag whole. let k = c.loop-i.invariant.2 g old b n s h pl ag whole in scan-next g old b n _ _ _ _ s _ _ _ _ k (omega (arith, c.loop-i-test.true, c.end_at-end.ensures.upper_bound)) _ _ _ (begun g old b n _ _ _ _ _ _ k.now k.entered _ _ _ (c.runs_with-count.ensures.finished g old b n k.now k.entered pl ag (listed-none g old _ _ (zero-at 1)) whole (λ none. absurd (omega (arith, none))))))

@@ -1,7 +1,6 @@
 -- The rule by itself is a job of one rule as Éloise's are, in the game where every state is hers, and nothing is listed for it; its
 -- runs are taken as those of any rule are. Assumes what the contract requires.
 use Prim.Native.Nat.{ℕ, ◌-◌}
-use borrow.Author.Rules.{rules}
 use mathlib.Core.Path.{◌≡◌}
 use mathlib.Core.List.{List}
 use lib.ListN.{length}
@@ -13,8 +12,6 @@ use Rattle.enumeration.specs.NextLaws.{begin_of}
 use Rattle.enumeration.specs.Past.{Aging}
 use Rattle.enumeration.specs.Places.{Placing}
 use Rattle.enumeration.specs.TakingLaws.{Scanning}
-use Rattle.walk.specs.RoundJobs.{hers}
-use Rattle.walk.proofs.FirstRuns.{itself}
 use Rattle.walk.proofs.ends.find_ends.Given as goal
 
 abbrev pub invariant-loop-i : goal.invariant-loop-i

@@ -22,12 +22,6 @@ returns-then-rules-r-ne2 c =
 pub find_ends-count-requires : goal.find_ends-count-requires
 find_ends-count-requires c = (c.requires.0, c.requires.1)
 
-pub clear_words-requires : goal.clear_words-requires
-clear_words-requires c = omega arith
-
-pub clear_words-requires-then-count-gt-ENDS : goal.clear_words-requires-then-count-gt-ENDS
-clear_words-requires-then-count-gt-ENDS c = omega arith
-
 pub returns-then-count-gt-ENDS : goal.returns-then-count-gt-ENDS
 returns-then-count-gt-ENDS c =
     record {
@@ -41,9 +35,6 @@ returns-then-count-gt-ENDS c =
 
 pub keep_list-after-requires : goal.keep_list-after-requires
 keep_list-after-requires c = (omega (arith, c.if-count-gt-ENDS.false, c.find_ends-count.ensures.sets_len_unchanged, c.requires.2), omega (arith, c.requires.0.few, c.requires.1), omega (arith, c.requires.3, c.requires.5), c.requires.4)
-
-pub clear_words-requires-2 : goal.clear_words-requires-2
-clear_words-requires-2 c = omega arith
 
 pub returns : goal.returns
 returns c =

@@ -1,12 +1,8 @@
 use Prim.Native.Nat.{◌+◌, ◌*◌}
 use native.Mathlib.Omega.{arith}
 use mathlib.Core.Path.{refl, sym, ◌∙◌}
-use mathlib.Core.Bool.{true}
 use Rattle.walk.proofs.Listing.{listed-none, zero-at}
 use Rattle.walk.proofs.ends.list_rules.Goals as goal
-
-pub overflow_add-first : goal.overflow_add-first
-overflow_add-first c = omega (arith, c.requires.0.few, c.requires.1)
 
 pub next_rule-r-requires : goal.next_rule-r-requires
 next_rule-r-requires c = (c.requires.0.ends, omega (arith, c.requires.1), c.requires.0.few)
@@ -23,14 +19,8 @@ slice_bounds-list_rule-end-in-loop-r c = sym c.loop-r.invariant.3
 pub list_rule-room-requires : goal.list_rule-room-requires
 list_rule-room-requires c = (c.requires.0, c.loop-r-test.true, c.loop-r.invariant.2, c.loop-r.invariant.0 ∙ c.requires.2, c.loop-r.invariant.1 ∙ c.clear_spans.ensures.spans_len_unchanged ∙ c.requires.3, c.loop-r.invariant.4)
 
-pub overflow_add-r : goal.overflow_add-r
-overflow_add-r c = omega (arith, c.requires.0.few, c.loop-r-test.true)
-
 pub next_rule-r-requires-in-loop-r : goal.next_rule-r-requires-in-loop-r
 next_rule-r-requires-in-loop-r c = (c.requires.0.ends, omega (arith, c.loop-r-test.true), c.requires.0.few)
-
-pub loop-r-smaller : goal.loop-r-smaller
-loop-r-smaller c = omega (arith, c.next_rule-r-in-loop-r.ensures.after, c.loop-r-test.true)
 
 pub loop-r-preserved : goal.loop-r-preserved
 loop-r-preserved c = let next = c.next_rule-r-in-loop-r.ensures in let more = c.list_rule-room.ensures.upper_bound in let left = c.list_rule-room.ensures in (left.lists_len_unchanged ∙ c.loop-r.invariant.0, left.spans_len_unchanged ∙ c.loop-r.invariant.1, left.sets_len_unchanged ∙ c.loop-r.invariant.2, left.memo_len_unchanged ∙ c.loop-r.invariant.3, more.0, next.within, next.found, more.2 c.loop-r.invariant.7, more.3 c.loop-r.invariant.8, more.1 c.loop-r.invariant.9, λ g old b stands pl ag. c.list_rule-room.ensures.listed g old b stands pl ag (c.loop-r.invariant.6 c.loop-r-test.true) c.loop-r.invariant.7 c.loop-r.invariant.8 c.loop-r.invariant.9 (c.loop-r.invariant.10 g old b stands pl ag))

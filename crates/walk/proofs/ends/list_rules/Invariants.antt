@@ -1,7 +1,6 @@
 -- Before and after each rule both areas are zero, every list ends before the room begins, and what is listed is right. Assumes what
 -- the contract requires.
 use Prim.Native.Nat.{ℕ, ◌*◌, ◌-◌, ◌<◌, ◌≤◌}
-use borrow.Author.Rules.{rules}
 use mathlib.Core.Path.{◌≡◌}
 use mathlib.Core.Bool.{true}
 use mathlib.Core.List.{List}

@@ -2,7 +2,6 @@ use Prim.Native.Nat.{◌*◌, ◌/◌, ◌%◌, ◌<◌}
 use native.Mathlib.Nat.{mod-lt}
 use mathlib.Core.Path.{refl, sym, ap, subst, ◌∙◌}
 use mathlib.Core.List.{List}
-use mathlib.Core.Bool.{true}
 use native.Mathlib.Omega.{arith}
 use lib.ListN.{length}
 use Rattle.walk.specs.RoundJobs.{runs_of}
@@ -17,12 +16,6 @@ use Rattle.walk.proofs.Listing.{listed-none}
 use Rattle.walk.proofs.Nest.{list-turn, run-turn, runs_done, job-turn, head-turn, round_filled}
 use Rattle.walk.proofs.round.add_runs.Goals as goal
 
-pub overflow_cast-letters : goal.overflow_cast-letters
-overflow_cast-letters c = omega arith
-
-pub overflow_cast-heads : goal.overflow_cast-heads
-overflow_cast-heads c = omega arith
-
 pub overflow_mul-heads : goal.overflow_mul-heads
 overflow_mul-heads c = omega (arith, few-heads _ c.args.sizes.letters c.requires.0.control (omega arith))
 
@@ -31,9 +24,6 @@ round-init c = (refl, refl, starts _ _ _ _ _ _ _ _ _ _ _ _ _, c.requires.4, c.re
 
 pub overflow_mul-heads-in-round : goal.overflow_mul-heads-in-round
 overflow_mul-heads-in-round c = omega (arith, few-heads _ c.args.sizes.letters c.requires.0.control (omega arith))
-
-pub nonzero_rem-head : goal.nonzero_rem-head
-nonzero_rem-head c = omega (arith, c.round-test.true)
 
 pub nonzero_div-p : goal.nonzero_div-p
 nonzero_div-p c = c.requires.1
@@ -56,12 +46,6 @@ loop-r-init c = let first = c.first_rule-r.ensures in (refl, refl, first.within,
 pub job_of-job-requires : goal.job_of-job-requires
 job_of-job-requires c = (c.requires.3, c.loop-r-test.true, c.requires.0.fit, c.requires.0.few)
 
-pub runs_end-end-requires : goal.runs_end-end-requires
-runs_end-end-requires c = omega (arith, c.requires.0.fit, c.loop-r-test.true)
-
-pub runs_start-i-requires : goal.runs_start-i-requires
-runs_start-i-requires c = omega (arith, c.requires.0.fit, c.loop-r-test.true)
-
 pub list_later-requires : goal.list_later-requires
 list_later-requires c = let able = at-able _ _ c.args.work.now _ _ _ _ _ _ c.requires.0 c.requires.2 c.loop-r-test.true c.job_of-job.ensures.value in (able.0, able.1, c.loop-r.invariant.5, c.loop-r.invariant.6)
 
@@ -70,12 +54,6 @@ loop-i-init c = let at = at-rule _ _ _ _ _ (c.round.turn % (c.args.sizes.control
 
 pub run_at-count-requires : goal.run_at-count-requires
 run_at-count-requires c = let able = at-able _ _ c.args.work.now _ _ _ _ _ _ c.requires.0 c.requires.2 c.loop-r-test.true c.job_of-job.ensures.value in (able.0, able.1, omega (arith, c.loop-i-test.true, runs-within _ _ _ _ _ _ _ c.runs_end-end.ensures, ap (runs_of c.args.rules.now c.loop-r.r) able.3))
-
-pub overflow_add-i : goal.overflow_add-i
-overflow_add-i c = omega (arith, c.loop-i-test.true)
-
-pub loop-i-smaller : goal.loop-i-smaller
-loop-i-smaller c = omega (arith, c.loop-i-test.true)
 
 pub loop-i-preserved : goal.loop-i-preserved
 loop-i-preserved c = let at = at-rule _ _ _ _ _ (c.round.turn % (c.args.sizes.control * c.args.sizes.letters)) c.loop-r.r _ _ c.requires.1 (mod-lt c.round.turn (omega (arith, c.round-test.true))) c.loop-r-test.true c.loop-r.invariant.3 c.job_of-job.ensures.value c.job_of-job.ensures.settled_from refl in (c.run_at-count.ensures.table_len_unchanged ∙ c.loop-i.invariant.0, c.run_at-count.ensures.memo_len_unchanged ∙ c.loop-i.invariant.1, run-turn _ _ _ _ _ _ _ _ c.requires.3 _ _ _ _ _ at _ _ (list-turn _ _ _ _ _ _ _ c.args.late c.requires.3 _ _ _ _ _ at c.loop-r.invariant.7 c.list_later.ensures.listed) _ c.loop-i.invariant.2 (omega (arith, c.loop-i-test.true, runs-within _ _ _ _ _ _ _ c.runs_end-end.ensures)) c.run_at-count.ensures.finished)
@@ -91,9 +69,6 @@ loop-r-preserved c = let next = c.next_rule-r.ensures in let at = at-rule _ _ _ 
 
 pub overflow_add-turn : goal.overflow_add-turn
 overflow_add-turn c = omega (arith, c.round-test.true, few-heads _ c.args.sizes.letters c.requires.0.control (omega arith))
-
-pub round-smaller : goal.round-smaller
-round-smaller c = omega (arith, c.round-test.true)
 
 pub round-preserved : goal.round-preserved
 round-preserved c = let added = ends _ _ _ _ _ _ _ _ c.loop-r.invariant.4 (λ g es n h. rules-none g es n _ _ _ _ _ h _ es _ _ _ c.loop-r-test.false) in (c.loop-r.invariant.0 ∙ c.round.invariant.0, c.loop-r.invariant.1 ∙ c.round.invariant.1, head-turn _ _ _ _ _ _ _ _ _ c.round.invariant.2 c.round-test.true added, c.loop-r.invariant.5, c.loop-r.invariant.6, c.loop-r.invariant.7)

@@ -11,9 +11,8 @@ use mathlib.Core.Bool.{true}
 use lib.ListN.{length}
 use Rattle.walk.specs.RoundJobs.{runs_of}
 use Rattle.game.specs.Game.{of_head}
-use Rattle.enumeration.specs.Past.{older}
 use Rattle.game.specs.Stored.{rule_at}
-use Rattle.walk.proofs.Rounding.{runs_from, rules_from, turn_at, turns_from, job_entries, Rightly, Turning, ends}
+use Rattle.walk.proofs.Rounding.{runs_from, rules_from, turn_at, turns_from, job_entries, Rightly, Turning}
 use Rattle.walk.proofs.round.add_runs.Given as goal
 
 abbrev pub invariant-loop-i : goal.invariant-loop-i

@@ -2,7 +2,6 @@
 -- the old round. Either way the function that is called leaves the list of run i. Assumes what the contract requires.
 use native.Mathlib.Omega.{arith}
 use Rattle.walk.proofs.FirstRuns.{runs-written, passed-some, popped, popped-past, written, written-past}
-use borrow.Author.Rules.{rules}
 use Rattle.walk.proofs.round.run_at.Goals as goal
 
 pub returns-then-rules-at-eq0 : goal.returns-then-rules-at-eq0
