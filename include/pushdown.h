@@ -69,7 +69,7 @@ extern "C" {
  * each version changed. */
 
 #define PUSHDOWN_VERSION_MAJOR 4u
-#define PUSHDOWN_VERSION_MINOR 1u
+#define PUSHDOWN_VERSION_MINOR 0u
 #define PUSHDOWN_VERSION (PUSHDOWN_VERSION_MAJOR * 65536u + PUSHDOWN_VERSION_MINOR)
 
 /* Limits of a game. */

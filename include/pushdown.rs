@@ -8,7 +8,7 @@
 #![allow(dead_code)]
 
 /// The version that these declarations go with, `PUSHDOWN_VERSION` of the header: major * 65,536 + minor.
-pub const PUSHDOWN_VERSION: u32 = 4 * 65_536 + 1;
+pub const PUSHDOWN_VERSION: u32 = 4 * 65_536;
 
 extern "C" {
     pub fn pushdown_version() -> u32;
