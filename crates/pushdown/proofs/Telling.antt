@@ -59,9 +59,9 @@ module _ (file out : List ℕ) where
   unfolding read_call
   read-wrong ne = rw (ne_eqb (length out) read_words ne)
 
-  pub read_told : length out ≡ read_words → read_told (reading file) ≡ read_call file out
+  pub read-told : length out ≡ read_words → read_told (reading file) ≡ read_call file out
   unfolding read_call
-  read_told e = rw (eq-eqb (length out) read_words e)
+  read-told e = rw (eq-eqb (length out) read_words e)
 
 refused-is : (o : Outcome PushdownGame) (q p : ℕ) → refused q p ≡ answer o → o ≡ refused q p
 refused-is (done g) q p e = absurd (let z : ◌≡◌ {A = ℕ} 0 1 = cc in omega arith)

@@ -50,16 +50,16 @@ unfolding any
 by-question numbers n h = right_or (eqb n 0) (right_or (eqb n wrong_length) h)
 
 -- pushdown_read
-read_told : (o : Outcome PushdownGame) → RefusedBy file_numbers o → is_one_of (read_told o).number (results file_numbers) ≡ true
+read-told : (o : Outcome PushdownGame) → RefusedBy file_numbers o → is_one_of (read_told o).number (results file_numbers) ≡ true
 unfolding read_told any
-read_told (done g) h = refl
-read_told (refused n k) h = by-question file_numbers n (h n k refl)
+read-told (done g) h = refl
+read-told (refused n k) h = by-question file_numbers n (h n k refl)
 
 pub read-returns : (file out : List ℕ) → is_one_of (read_call file out).number (results file_numbers) ≡ true
 unfolding read_call any
 read-returns file out =
     of_either (λ (t : Told). is_one_of t.number (results file_numbers) ≡ true) (eqb (length out) read_words) (read_told (reading file)) _
-    (read_told (reading file) (file-numbers file)) refl
+    (read-told (reading file) (file-numbers file)) refl
 
 -- pushdown_solve
 solve-told : (o : Outcome Solved) (t w : ℕ) → RefusedBy solve_numbers o

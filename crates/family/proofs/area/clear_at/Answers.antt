@@ -13,9 +13,9 @@ bounds-words-at c = omega arith
 
 pub returns-then-n-eq1 : goal.returns-then-n-eq1
 returns-then-n-eq1 c =
-    record
-    { cleared = cleared-one _ _ _ c.if-n-eq1.true c.requires
-    ; words_len_unchanged = search rules
+    record {
+      cleared = cleared-one _ _ _ c.if-n-eq1.true c.requires;
+      words_len_unchanged = search rules;
     }
 
 pub offset_bounds-words-at-then-n-eq2 : goal.offset_bounds-words-at-then-n-eq2
@@ -35,9 +35,9 @@ bounds-words-at-then-n-eq2-2 c = rw length-set (omega (arith, c.if-n-eq2.true, c
 
 pub returns-then-n-eq2 : goal.returns-then-n-eq2
 returns-then-n-eq2 c =
-    record
-    { cleared = cleared-two _ _ _ c.if-n-eq2.true c.requires
-    ; words_len_unchanged = search rules
+    record {
+      cleared = cleared-two _ _ _ c.if-n-eq2.true c.requires;
+      words_len_unchanged = search rules;
     }
 
 pub offset_bounds-words-at-then-n-eq4 : goal.offset_bounds-words-at-then-n-eq4
@@ -75,9 +75,9 @@ bounds-words-at-then-n-eq4-4 c = rw (length-set, length-set, length-set) (omega 
 
 pub returns-then-n-eq4 : goal.returns-then-n-eq4
 returns-then-n-eq4 c =
-    record
-    { cleared = cleared-four _ _ _ c.if-n-eq4.true c.requires
-    ; words_len_unchanged = search rules
+    record {
+      cleared = cleared-four _ _ _ c.if-n-eq4.true c.requires;
+      words_len_unchanged = search rules;
     }
 
 pub loop-i-init : goal.loop-i-init
@@ -106,7 +106,7 @@ shape_of-words c = c.loop-i.invariant.long
 
 pub returns : goal.returns
 returns c =
-    record
-    { cleared = cleared-all _ _ _ _ _ c.loop-i.invariant c.loop-i-test.false
-    ; words_len_unchanged = c.loop-i.invariant.long
+    record {
+      cleared = cleared-all _ _ _ _ _ c.loop-i.invariant c.loop-i-test.false;
+      words_len_unchanged = c.loop-i.invariant.long;
     }

@@ -19,9 +19,9 @@ bounds-words-to c = omega arith
 
 pub returns-then-n-eq1 : goal.returns-then-n-eq1
 returns-then-n-eq1 c =
-    record
-    { copied = copied-one _ _ _ _ _ c.if-n-eq1.true c.requires.0
-    ; words_len_unchanged = search rules
+    record {
+      copied = copied-one _ _ _ _ _ c.if-n-eq1.true c.requires.0;
+      words_len_unchanged = search rules;
     }
 
 pub offset_bounds-others-at-then-n-eq2 : goal.offset_bounds-others-at-then-n-eq2
@@ -56,9 +56,9 @@ bounds-words-to-then-n-eq2-2 c = rw length-set (omega (arith, c.if-n-eq2.true, c
 
 pub returns-then-n-eq2 : goal.returns-then-n-eq2
 returns-then-n-eq2 c =
-    record
-    { copied = copied-two _ _ _ _ _ c.if-n-eq2.true c.requires.0
-    ; words_len_unchanged = search rules
+    record {
+      copied = copied-two _ _ _ _ _ c.if-n-eq2.true c.requires.0;
+      words_len_unchanged = search rules;
     }
 
 pub offset_bounds-others-at-then-n-eq4 : goal.offset_bounds-others-at-then-n-eq4
@@ -129,9 +129,9 @@ bounds-words-to-then-n-eq4-4 c = rw (length-set, length-set, length-set) (omega 
 
 pub returns-then-n-eq4 : goal.returns-then-n-eq4
 returns-then-n-eq4 c =
-    record
-    { copied = copied-four _ _ _ _ _ c.if-n-eq4.true c.requires.0
-    ; words_len_unchanged = search rules
+    record {
+      copied = copied-four _ _ _ _ _ c.if-n-eq4.true c.requires.0;
+      words_len_unchanged = search rules;
     }
 
 pub loop-i-init : goal.loop-i-init
@@ -169,7 +169,7 @@ shape_of-words c = c.loop-i.invariant.long
 
 pub returns : goal.returns
 returns c =
-    record
-    { copied = copied_all _ _ _ _ _ _ _ c.loop-i.invariant c.loop-i-test.false
-    ; words_len_unchanged = c.loop-i.invariant.long
+    record {
+      copied = copied_all _ _ _ _ _ _ _ c.loop-i.invariant c.loop-i-test.false;
+      words_len_unchanged = c.loop-i.invariant.long;
     }

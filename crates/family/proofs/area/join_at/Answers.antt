@@ -24,9 +24,9 @@ bounds-words-to-then-n-eq1 c = omega arith
 
 pub returns-then-n-eq1 : goal.returns-then-n-eq1
 returns-then-n-eq1 c =
-    record
-    { joined = joined-one _ _ _ _ _ c.if-n-eq1.true c.requires.0
-    ; words_len_unchanged = search rules
+    record {
+      joined = joined-one _ _ _ _ _ c.if-n-eq1.true c.requires.0;
+      words_len_unchanged = search rules;
     }
 
 pub loop-i-init : goal.loop-i-init
@@ -73,7 +73,7 @@ shape_of-words c = c.loop-i.invariant.long
 
 pub returns : goal.returns
 returns c =
-    record
-    { joined = joined-all _ _ _ _ _ _ _ c.loop-i.invariant c.loop-i-test.false
-    ; words_len_unchanged = c.loop-i.invariant.long
+    record {
+      joined = joined-all _ _ _ _ _ _ _ c.loop-i.invariant c.loop-i-test.false;
+      words_len_unchanged = c.loop-i.invariant.long;
     }

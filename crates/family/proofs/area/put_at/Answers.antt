@@ -4,7 +4,7 @@ use Rattle.family.proofs.area.put_at.Goals as goal
 
 pub returns : goal.returns
 returns c =
-    record
-    { put = put_in _ _ _ c.requires
-    ; words_len_unchanged = simp length-set
+    record {
+      put = put_in _ _ _ c.requires;
+      words_len_unchanged = simp length-set;
     }

@@ -56,7 +56,7 @@ shape_of-words c = c.loop-i.invariant.long
 
 pub returns : goal.returns
 returns c =
-    record
-    { without = without_all _ _ _ _ _ _ _ c.loop-i.invariant c.loop-i-test.false
-    ; words_len_unchanged = c.loop-i.invariant.long
+    record {
+      without = without_all _ _ _ _ _ _ _ c.loop-i.invariant c.loop-i-test.false;
+      words_len_unchanged = c.loop-i.invariant.long;
     }

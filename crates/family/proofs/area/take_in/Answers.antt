@@ -36,10 +36,10 @@ bounds-all-to-then-n-eq1-2 c = omega arith
 
 pub returns-then-n-eq1 : goal.returns-then-n-eq1
 returns-then-n-eq1 c =
-    record
-    { taken_in = taken-one _ _ _ _ _ c.if-n-eq1.true c.requires.0 c.requires.1
-    ; all_len_unchanged = search rules
-    ; len_unchanged = search rules
+    record {
+      taken_in = taken-one _ _ _ _ _ c.if-n-eq1.true c.requires.0 c.requires.1;
+      all_len_unchanged = search rules;
+      len_unchanged = search rules;
     }
 
 pub loop-t-init : goal.loop-t-init
@@ -113,8 +113,8 @@ shape_of-new c = c.loop-t.invariant.1.long
 
 pub returns : goal.returns
 returns c =
-    record
-    { taken_in = taken-all _ _ _ _ _ _ _ _ c.loop-t.invariant.0 c.loop-t.invariant.1 c.loop-t-test.false
-    ; all_len_unchanged = c.loop-t.invariant.0.long
-    ; len_unchanged = c.loop-t.invariant.1.long
+    record {
+      taken_in = taken-all _ _ _ _ _ _ _ _ c.loop-t.invariant.0 c.loop-t.invariant.1 c.loop-t-test.false;
+      all_len_unchanged = c.loop-t.invariant.0.long;
+      len_unchanged = c.loop-t.invariant.1.long;
     }

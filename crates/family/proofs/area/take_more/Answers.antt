@@ -30,10 +30,10 @@ bounds-all-to-then-n-eq1-2 c = omega arith
 
 pub returns-then-n-eq1 : goal.returns-then-n-eq1
 returns-then-n-eq1 c =
-    record
-    { joined = more-one _ _ _ _ c.if-n-eq1.true c.requires.0
-    ; x_value = λ e. none-missing-one _ _ _ _ c.if-n-eq1.true (is_zero _ e)
-    ; all_len_unchanged = search rules
+    record {
+      joined = more-one _ _ _ _ c.if-n-eq1.true c.requires.0;
+      x_value = λ e. none-missing-one _ _ _ _ c.if-n-eq1.true (is_zero _ e);
+      all_len_unchanged = search rules;
     }
 
 pub loop-t-init : goal.loop-t-init
@@ -92,8 +92,8 @@ shape_of-all c = c.loop-t.invariant.0.long
 
 pub returns : goal.returns
 returns c =
-    record
-    { joined = more-all _ _ _ _ _ _ c.loop-t.invariant.0 c.loop-t-test.false
-    ; x_value = λ e. none-missing _ _ _ _ _ _ c.loop-t.invariant.1 c.loop-t-test.false (is_zero _ e)
-    ; all_len_unchanged = c.loop-t.invariant.0.long
+    record {
+      joined = more-all _ _ _ _ _ _ c.loop-t.invariant.0 c.loop-t-test.false;
+      x_value = λ e. none-missing _ _ _ _ _ _ c.loop-t.invariant.1 c.loop-t-test.false (is_zero _ e);
+      all_len_unchanged = c.loop-t.invariant.0.long;
     }

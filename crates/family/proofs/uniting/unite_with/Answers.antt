@@ -39,16 +39,17 @@ loop-p-smaller c = omega (arith, c.loop-p-test.true, left-least (c.loop-p.p + 1)
 pub loop-p-preserved : goal.loop-p-preserved
 loop-p-preserved c =
     let past = above-contains c.args.i c.loop-p.p (omega (arith, c.requires.2, c.requires.4)) (omega (arith, c.loop-p-test.true, c.requires.4)) in
-    elim c.if-many-ne0.branch
-    [ then-many-ne0 w ↦ rw w.out-is (rw length-set c.loop-p.invariant.0, past, λ r. placed-more _ _ _ _ _ _ c.requires.4 c.requires.2 _ _ (c.loop-p.invariant.2 r) c.loop-p.invariant.1 c.loop-p-test.true _ c.gathered-many.ensures (omega (arith, c.requires.4, c.requires.0, c.loop-p.invariant.0, c.loop-p-test.true)) _ (w.unite_by.ensures r))
-    | else-many-ne0 w ↦ rw w.out-is (c.loop-p.invariant.0, past, λ r. placed-skips _ _ _ _ _ _ c.requires.4 c.requires.2 _ _ (c.loop-p.invariant.2 r) c.loop-p.invariant.1 c.loop-p-test.true _ c.gathered-many.ensures w.if-many-ne0.false) ]
+    elim c.if-many-ne0.branch [
+      | then-many-ne0 w ↦ rw w.out-is (rw length-set c.loop-p.invariant.0, past, λ r. placed-more _ _ _ _ _ _ c.requires.4 c.requires.2 _ _ (c.loop-p.invariant.2 r) c.loop-p.invariant.1 c.loop-p-test.true _ c.gathered-many.ensures (omega (arith, c.requires.4, c.requires.0, c.loop-p.invariant.0, c.loop-p-test.true)) _ (w.unite_by.ensures r))
+      | else-many-ne0 w ↦ rw w.out-is (c.loop-p.invariant.0, past, λ r. placed-skips _ _ _ _ _ _ c.requires.4 c.requires.2 _ _ (c.loop-p.invariant.2 r) c.loop-p.invariant.1 c.loop-p-test.true _ c.gathered-many.ensures w.if-many-ne0.false)
+    ]
 
 pub shape_of-out : goal.shape_of-out
 shape_of-out c = c.loop-p.invariant.0
 
 pub returns : goal.returns
 returns c =
-    record
-    { row = λ r. placed-ends _ _ _ _ _ _ c.requires.4 c.requires.2 _ _ (c.loop-p.invariant.2 r) c.loop-p-test.false
-    ; out_len_unchanged = c.loop-p.invariant.0
+    record {
+      row = λ r. placed-ends _ _ _ _ _ _ c.requires.4 c.requires.2 _ _ (c.loop-p.invariant.2 r) c.loop-p-test.false;
+      out_len_unchanged = c.loop-p.invariant.0;
     }

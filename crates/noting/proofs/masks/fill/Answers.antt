@@ -21,7 +21,7 @@ shape_of-list c = c.loop-i.invariant.long
 
 pub returns : goal.returns
 returns c =
-    record
-    { by_index = λ i l. c.loop-i.invariant.done i (omega (arith, c.loop-i-test.false, c.loop-i.invariant.long))
-    ; list_len_unchanged = c.loop-i.invariant.long
+    record {
+      by_index = λ i l. c.loop-i.invariant.done i (omega (arith, c.loop-i-test.false, c.loop-i.invariant.long));
+      list_len_unchanged = c.loop-i.invariant.long;
     }

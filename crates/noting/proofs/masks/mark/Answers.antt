@@ -35,13 +35,14 @@ loop-k-smaller c = omega (arith, c.loop-k-test.true)
 
 pub loop-k-preserved : goal.loop-k-preserved
 loop-k-preserved c =
-    elim c.if-not-is_empty_at.branch
-    [ then-not-is_empty_at w ↦ marks-more _ _ _ _ _ _ _ _ c.loop-k.invariant c.loop-k-test.true c.requires.1 _ w.set-is
-    | else-not-is_empty_at w ↦ marks-less _ _ _ _ _ _ _ _ c.loop-k.invariant c.loop-k-test.true c.requires.1 _ w.set-is _ c.number_of.ensures.0 (c.is_empty_at.ensures w.if-not-is_empty_at.false) ]
+    elim c.if-not-is_empty_at.branch [
+      | then-not-is_empty_at w ↦ marks-more _ _ _ _ _ _ _ _ c.loop-k.invariant c.loop-k-test.true c.requires.1 _ w.set-is
+      | else-not-is_empty_at w ↦ marks-less _ _ _ _ _ _ _ _ c.loop-k.invariant c.loop-k-test.true c.requires.1 _ w.set-is _ c.number_of.ensures.0 (c.is_empty_at.ensures w.if-not-is_empty_at.false)
+    ]
 
 pub returns : goal.returns
 returns c =
-    record
-    { marked = marks-all _ _ _ _ _ _ _ _ c.loop-k-test.false c.loop-k.invariant
-    ; upper_bound = c.loop-k.invariant.small
+    record {
+      marked = marks-all _ _ _ _ _ _ _ _ c.loop-k-test.false c.loop-k.invariant;
+      upper_bound = c.loop-k.invariant.small;
     }

@@ -19,10 +19,10 @@ shape_of-log-then-size-entries c = c.loop-rest.invariant.same
 
 pub returns-then-size-entries : goal.returns-then-size-entries
 returns-then-size-entries c =
-    record
-    { by_index = (λ el g es now b p a ok good asc ranged t ef lp la offers. inl (refl, words-full _ _ _ _ _ _ _ _ _ _ _ c.loop-rest.invariant (omega (arith, c.loop-rest-test.true)) c.lowest_set-s.ensures c.if-size-entries.true el g es now b p a ok good asc ranged t ef lp la offers))
-    ; upper_bound = omega arith
-    ; log_len_unchanged = c.loop-rest.invariant.same
+    record {
+      by_index = (λ el g es now b p a ok good asc ranged t ef lp la offers. inl (refl, words-full _ _ _ _ _ _ _ _ _ _ _ c.loop-rest.invariant (omega (arith, c.loop-rest-test.true)) c.lowest_set-s.ensures c.if-size-entries.true el g es now b p a ok good asc ranged t ef lp la offers));
+      upper_bound = omega arith;
+      log_len_unchanged = c.loop-rest.invariant.same;
     }
 
 pub overflow_mul-entries : goal.overflow_mul-entries
@@ -54,8 +54,8 @@ shape_of-log c = c.loop-rest.invariant.same
 
 pub returns : goal.returns
 returns c =
-    record
-    { by_index = words-end _ _ _ _ _ _ _ _ _ _ c.loop-rest-test.false c.loop-rest.invariant
-    ; upper_bound = omega (arith, c.loop-rest.invariant.room)
-    ; log_len_unchanged = c.loop-rest.invariant.same
+    record {
+      by_index = words-end _ _ _ _ _ _ _ _ _ _ c.loop-rest-test.false c.loop-rest.invariant;
+      upper_bound = omega (arith, c.loop-rest.invariant.room);
+      log_len_unchanged = c.loop-rest.invariant.same;
     }

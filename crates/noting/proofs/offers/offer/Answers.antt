@@ -66,11 +66,11 @@ shape_of-log-then-size-entries c = c.note_word-entries.ensures.log_len_unchanged
 
 pub returns-then-size-entries : goal.returns-then-size-entries
 returns-then-size-entries c =
-    record
-    { by_index = (λ el g es now b p a lay good asc ranged t ef lp la eh hold adding offered. giving-full _ _ _ _ _ _ _ _ _ _ _ _ _ _ _ _ c.loop-j.invariant c.loop-j-test.true (omega (arith, c.requires.8, c.loop-j.invariant.areas)) c.unseen-word.ensures _ _ c.note_word-entries.ensures.by_index c.if-size-entries.true c.note_word-entries.ensures.upper_bound el g es now b p a lay good asc ranged t ef lp la eh hold adding offered _)
-    ; upper_bound = c.note_word-entries.ensures.upper_bound
-    ; added_len_unchanged = c.loop-j.invariant.areas
-    ; log_len_unchanged = c.note_word-entries.ensures.log_len_unchanged ∙ c.loop-j.invariant.same
+    record {
+      by_index = (λ el g es now b p a lay good asc ranged t ef lp la eh hold adding offered. giving-full _ _ _ _ _ _ _ _ _ _ _ _ _ _ _ _ c.loop-j.invariant c.loop-j-test.true (omega (arith, c.requires.8, c.loop-j.invariant.areas)) c.unseen-word.ensures _ _ c.note_word-entries.ensures.by_index c.if-size-entries.true c.note_word-entries.ensures.upper_bound el g es now b p a lay good asc ranged t ef lp la eh hold adding offered _);
+      upper_bound = c.note_word-entries.ensures.upper_bound;
+      added_len_unchanged = c.loop-j.invariant.areas;
+      log_len_unchanged = c.note_word-entries.ensures.log_len_unchanged ∙ c.loop-j.invariant.same;
     }
 
 pub overflow_mul-added : goal.overflow_mul-added
@@ -105,9 +105,10 @@ loop-j-smaller c = omega (arith, c.loop-j-test.true)
 
 pub loop-j-preserved : goal.loop-j-preserved
 loop-j-preserved c =
-    elim c.if-word-ne0.branch
-    [ then-word-ne0+else-size-entries w ↦ rw (w.added-is, w.log-is, w.entries-is) (giving-on _ _ _ _ _ _ _ _ _ _ _ _ _ _ _ _ c.loop-j.invariant c.loop-j-test.true (omega (arith, c.requires.8, c.loop-j.invariant.areas)) c.unseen-word.ensures _ _ w.note_word-entries.ensures.by_index _ w.if-size-entries.false w.note_word-entries.ensures.log_len_unchanged refl (simp length-set))
-    | else-word-ne0 w ↦ rw (w.added-is, w.log-is, w.entries-is) (giving-none _ _ _ _ _ _ _ _ _ _ _ _ _ _ _ _ c.loop-j.invariant c.loop-j-test.true (omega (arith, c.requires.8, c.loop-j.invariant.areas)) c.unseen-word.ensures w.if-word-ne0.false) ]
+    elim c.if-word-ne0.branch [
+      | then-word-ne0+else-size-entries w ↦ rw (w.added-is, w.log-is, w.entries-is) (giving-on _ _ _ _ _ _ _ _ _ _ _ _ _ _ _ _ c.loop-j.invariant c.loop-j-test.true (omega (arith, c.requires.8, c.loop-j.invariant.areas)) c.unseen-word.ensures _ _ w.note_word-entries.ensures.by_index _ w.if-size-entries.false w.note_word-entries.ensures.log_len_unchanged refl (simp length-set))
+      | else-word-ne0 w ↦ rw (w.added-is, w.log-is, w.entries-is) (giving-none _ _ _ _ _ _ _ _ _ _ _ _ _ _ _ _ c.loop-j.invariant c.loop-j-test.true (omega (arith, c.requires.8, c.loop-j.invariant.areas)) c.unseen-word.ensures w.if-word-ne0.false)
+    ]
 
 pub shape_of-added : goal.shape_of-added
 shape_of-added c = c.loop-j.invariant.areas
@@ -117,9 +118,9 @@ shape_of-log c = c.loop-j.invariant.same
 
 pub returns : goal.returns
 returns c =
-    record
-    { by_index = giving-ends _ _ _ _ _ _ _ _ _ _ _ _ _ _ _ c.loop-j-test.false c.loop-j.invariant
-    ; upper_bound = omega (arith, c.loop-j.invariant.room)
-    ; added_len_unchanged = c.loop-j.invariant.areas
-    ; log_len_unchanged = c.loop-j.invariant.same
+    record {
+      by_index = giving-ends _ _ _ _ _ _ _ _ _ _ _ _ _ _ _ c.loop-j-test.false c.loop-j.invariant;
+      upper_bound = omega (arith, c.loop-j.invariant.room);
+      added_len_unchanged = c.loop-j.invariant.areas;
+      log_len_unchanged = c.loop-j.invariant.same;
     }

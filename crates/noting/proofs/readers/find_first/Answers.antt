@@ -32,7 +32,7 @@ shape_of-active c = c.loop-q.invariant.2
 
 pub returns : goal.returns
 returns c =
-    record
-    { first_to = first-all _ _ _ _ _ _ c.loop-q.invariant.0 c.loop-q-test.false
-    ; active_len_unchanged = c.loop-q.invariant.2
+    record {
+      first_to = first-all _ _ _ _ _ _ c.loop-q.invariant.0 c.loop-q-test.false;
+      active_len_unchanged = c.loop-q.invariant.2;
     }

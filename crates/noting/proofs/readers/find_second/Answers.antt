@@ -44,7 +44,7 @@ shape_of-active c = c.loop-c.invariant.2
 
 pub returns : goal.returns
 returns c =
-    record
-    { second_to = second-all _ _ _ _ _ _ _ c.loop-c.invariant.0 c.loop-c-test.false
-    ; active_len_unchanged = c.loop-c.invariant.2
+    record {
+      second_to = second-all _ _ _ _ _ _ _ c.loop-c.invariant.0 c.loop-c-test.false;
+      active_len_unchanged = c.loop-c.invariant.2;
     }

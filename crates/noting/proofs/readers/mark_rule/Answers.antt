@@ -4,21 +4,21 @@ use Rattle.noting.proofs.readers.mark_rule.Goals as goal
 
 pub returns-then-written-eq0 : goal.returns-then-written-eq0
 returns-then-written-eq0 c =
-    record
-    { marked = marked-alone _ _ _ _ c.if-written-eq0.true c.put_at.ensures.put
-    ; readers_len_unchanged = c.put_at.ensures.words_len_unchanged
+    record {
+      marked = marked-alone _ _ _ _ c.if-written-eq0.true c.put_at.ensures.put;
+      readers_len_unchanged = c.put_at.ensures.words_len_unchanged;
     }
 
 pub returns-then-written-eq1 : goal.returns-then-written-eq1
 returns-then-written-eq1 c =
-    record
-    { marked = marked-one _ _ _ _ _ _ _ c.number_of.ensures.0 c.number_of-2.ensures.0 (λ e. absurd (c.if-written-eq0.false e)) c.put_at-2.ensures.put c.put_at-3.ensures.put c.if-written-eq1.true
-    ; readers_len_unchanged = search rules
+    record {
+      marked = marked-one _ _ _ _ _ _ _ c.number_of.ensures.0 c.number_of-2.ensures.0 (λ e. absurd (c.if-written-eq0.false e)) c.put_at-2.ensures.put c.put_at-3.ensures.put c.if-written-eq1.true;
+      readers_len_unchanged = search rules;
     }
 
 pub returns : goal.returns
 returns c =
-    record
-    { marked = marked-two _ _ _ _ _ _ _ c.number_of.ensures.0 c.number_of-2.ensures.0 (λ e. absurd (c.if-written-eq0.false e)) c.put_at-2.ensures.put c.put_at-3.ensures.put _ _ c.number_of-3.ensures.0 c.put_at-4.ensures.put
-    ; readers_len_unchanged = search rules
+    record {
+      marked = marked-two _ _ _ _ _ _ _ c.number_of.ensures.0 c.number_of-2.ensures.0 (λ e. absurd (c.if-written-eq0.false e)) c.put_at-2.ensures.put c.put_at-3.ensures.put _ _ c.number_of-3.ensures.0 c.put_at-4.ensures.put;
+      readers_len_unchanged = search rules;
     }

@@ -23,7 +23,7 @@ shape_of-readers c = c.loop-r.invariant.2
 
 pub returns : goal.returns
 returns c =
-    record
-    { reads = reads_all _ _ _ _ c.loop-r.invariant.0 c.loop-r-test.false
-    ; readers_len_unchanged = c.loop-r.invariant.2
+    record {
+      reads = reads_all _ _ _ _ c.loop-r.invariant.0 c.loop-r-test.false;
+      readers_len_unchanged = c.loop-r.invariant.2;
     }

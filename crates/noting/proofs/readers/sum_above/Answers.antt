@@ -32,7 +32,7 @@ shape_of-sum c = c.loop-rest.invariant.long
 
 pub returns : goal.returns
 returns c =
-    record
-    { summed = summing-ends _ _ _ _ _ c.loop-rest.invariant c.loop-rest-test.false
-    ; sum_len_unchanged = c.loop-rest.invariant.long
+    record {
+      summed = summing-ends _ _ _ _ _ c.loop-rest.invariant c.loop-rest-test.false;
+      sum_len_unchanged = c.loop-rest.invariant.long;
     }

@@ -4,7 +4,7 @@ use Rattle.noting.proofs.signs.mark.Goals as goal
 
 pub returns : goal.returns
 returns c =
-    record
-    { by_index = mark-clear c.args.words.now c.args.p c.args.a c.requires.0 c.requires.1
-    ; words_len_unchanged = search rules
+    record {
+      by_index = mark-clear c.args.words.now c.args.p c.args.a c.requires.0 c.requires.1;
+      words_len_unchanged = search rules;
     }

@@ -10,13 +10,13 @@ overflow_add-result c = omega (arith, c.requires.1)
 
 pub returns-then-size-targetcount : goal.returns-then-size-targetcount
 returns-then-size-targetcount c =
-    record
-    { starts = (λ g el count states sizes rules held good elements lay eg eh ec bare bare'. starting-beyond _ _ _ _ _ _ _ _ c.args.log.now c.args.news.now _ _ _ _ _ c.if-size-targetcount.true g el (target g el count states sizes rules _ _ _ _ _ _ _ _ held good elements lay eg eh ec bare bare'))
-    ; upper_bound = omega arith
-    ; all_len_unchanged = refl
-    ; len_unchanged = refl
-    ; log_len_unchanged = refl
-    ; news_len_unchanged = refl
+    record {
+      starts = (λ g el count states sizes rules held good elements lay eg eh ec bare bare'. starting-beyond _ _ _ _ _ _ _ _ c.args.log.now c.args.news.now _ _ _ _ _ c.if-size-targetcount.true g el (target g el count states sizes rules _ _ _ _ _ _ _ _ held good elements lay eg eh ec bare bare'));
+      upper_bound = omega arith;
+      all_len_unchanged = refl;
+      len_unchanged = refl;
+      log_len_unchanged = refl;
+      news_len_unchanged = refl;
     }
 
 pub loop-t-init : goal.loop-t-init
@@ -60,13 +60,13 @@ shape_of-news-then-heads-head c = c.loop-t.invariant.tidings
 
 pub returns-then-heads-head : goal.returns-then-heads-head
 returns-then-heads-head c =
-    record
-    { starts = (λ g el count states sizes rules held good elements lay eg eh ec bare bare'. absurd (head-found _ _ _ _ _ _ _ _ c.args.log.now c.args.news.now _ c.loop-t-test.true g el (target g el count states sizes rules _ _ _ _ _ _ _ _ held good elements lay eg eh ec bare bare') _ c.head_at-head.ensures.value c.if-heads-head.true))
-    ; upper_bound = omega arith
-    ; all_len_unchanged = c.loop-t.invariant.areas
-    ; len_unchanged = c.loop-t.invariant.newer
-    ; log_len_unchanged = c.loop-t.invariant.same
-    ; news_len_unchanged = c.loop-t.invariant.tidings
+    record {
+      starts = (λ g el count states sizes rules held good elements lay eg eh ec bare bare'. absurd (head-found _ _ _ _ _ _ _ _ c.args.log.now c.args.news.now _ c.loop-t-test.true g el (target g el count states sizes rules _ _ _ _ _ _ _ _ held good elements lay eg eh ec bare bare') _ c.head_at-head.ensures.value c.if-heads-head.true));
+      upper_bound = omega arith;
+      all_len_unchanged = c.loop-t.invariant.areas;
+      len_unchanged = c.loop-t.invariant.newer;
+      log_len_unchanged = c.loop-t.invariant.same;
+      news_len_unchanged = c.loop-t.invariant.tidings;
     }
 
 pub overflow_add-at-in-loop-t : goal.overflow_add-at-in-loop-t
@@ -98,13 +98,13 @@ shape_of-news-then-n-x c = c.loop-t.invariant.tidings
 
 pub returns-then-n-x : goal.returns-then-n-x
 returns-then-n-x c =
-    record
-    { starts = (λ g el count states sizes rules held good elements lay eg eh ec bare bare'. absurd (set_found _ _ _ _ _ _ _ _ c.args.log.now c.args.news.now _ c.loop-t-test.true g el (target g el count states sizes rules _ _ _ _ _ _ _ _ held good elements lay eg eh ec bare bare') _ c.element_set-x.ensures.upper_bound_2 c.if-n-x.true))
-    ; upper_bound = omega arith
-    ; all_len_unchanged = c.loop-t.invariant.areas
-    ; len_unchanged = c.loop-t.invariant.newer
-    ; log_len_unchanged = c.loop-t.invariant.same
-    ; news_len_unchanged = c.loop-t.invariant.tidings
+    record {
+      starts = (λ g el count states sizes rules held good elements lay eg eh ec bare bare'. absurd (set_found _ _ _ _ _ _ _ _ c.args.log.now c.args.news.now _ c.loop-t-test.true g el (target g el count states sizes rules _ _ _ _ _ _ _ _ held good elements lay eg eh ec bare bare') _ c.element_set-x.ensures.upper_bound_2 c.if-n-x.true));
+      upper_bound = omega arith;
+      all_len_unchanged = c.loop-t.invariant.areas;
+      len_unchanged = c.loop-t.invariant.newer;
+      log_len_unchanged = c.loop-t.invariant.same;
+      news_len_unchanged = c.loop-t.invariant.tidings;
     }
 
 pub overflow_mul-head : goal.overflow_mul-head
@@ -196,11 +196,11 @@ shape_of-news c = c.loop-t.invariant.tidings
 
 pub returns : goal.returns
 returns c =
-    record
-    { starts = (λ g el count states sizes rules held good elements lay eg eh ec bare bare'. starting-ends _ _ _ _ _ _ _ _ _ _ _ _ _ _ _ c.loop-t-test.false c.loop-t.invariant _ c.if-size-targetcount.false g el (target g el count states sizes rules _ _ _ _ _ _ _ _ held good elements lay eg eh ec bare bare'))
-    ; upper_bound = omega (arith, c.if-size-targetcount.false)
-    ; all_len_unchanged = c.loop-t.invariant.areas
-    ; len_unchanged = c.loop-t.invariant.newer
-    ; log_len_unchanged = c.loop-t.invariant.same
-    ; news_len_unchanged = c.loop-t.invariant.tidings
+    record {
+      starts = (λ g el count states sizes rules held good elements lay eg eh ec bare bare'. starting-ends _ _ _ _ _ _ _ _ _ _ _ _ _ _ _ c.loop-t-test.false c.loop-t.invariant _ c.if-size-targetcount.false g el (target g el count states sizes rules _ _ _ _ _ _ _ _ held good elements lay eg eh ec bare bare'));
+      upper_bound = omega (arith, c.if-size-targetcount.false);
+      all_len_unchanged = c.loop-t.invariant.areas;
+      len_unchanged = c.loop-t.invariant.newer;
+      log_len_unchanged = c.loop-t.invariant.same;
+      news_len_unchanged = c.loop-t.invariant.tidings;
     }

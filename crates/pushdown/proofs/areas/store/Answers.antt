@@ -13,7 +13,7 @@ pub overflow_cast-session-2 : goal.overflow_cast-session-2
 overflow_cast-session-2 c = omega arith
 
 pub loop-i-init : goal.loop-i-init
-loop-i-init c = let d = head-written c.args.session.now c.args.state c.args.height c.args.t3 c.requires in (d.long ∙ c.requires, from-here _ _ _ _ d)
+loop-i-init c = let d = head-written c.args.session.now c.args.state c.args.height c.args.cells c.requires in (d.long ∙ c.requires, from-here _ _ _ _ d)
 
 pub bounds-cells-i : goal.bounds-cells-i
 bounds-cells-i c = omega arith

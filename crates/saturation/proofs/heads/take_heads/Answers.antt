@@ -27,12 +27,12 @@ shape_of-log-then-size-entries c = c.take_row-entries.ensures.log_len_unchanged 
 
 pub returns-then-size-entries : goal.returns-then-size-entries
 returns-then-size-entries c =
-    record
-    { by_index = (λ el g old es now i rules k taking adding gained. going-full _ _ _ _ _ _ _ _ _ _ _ _ _ _ _ _ _ c.loop-p.invariant c.loop-p-test.true c.take_row-entries.ensures.by_index c.if-size-entries.true el g old es now i rules k taking adding (record { none = gained }))
-    ; upper_bound = c.take_row-entries.ensures.upper_bound
-    ; added_len_unchanged = c.take_row-entries.ensures.added_len_unchanged ∙ c.loop-p.invariant.adds
-    ; gains_len_unchanged = c.take_row-entries.ensures.gains_len_unchanged ∙ c.loop-p.invariant.gaining
-    ; log_len_unchanged = c.take_row-entries.ensures.log_len_unchanged ∙ c.loop-p.invariant.logs
+    record {
+      by_index = (λ el g old es now i rules k taking adding gained. going-full _ _ _ _ _ _ _ _ _ _ _ _ _ _ _ _ _ c.loop-p.invariant c.loop-p-test.true c.take_row-entries.ensures.by_index c.if-size-entries.true el g old es now i rules k taking adding (record { none = gained }));
+      upper_bound = c.take_row-entries.ensures.upper_bound;
+      added_len_unchanged = c.take_row-entries.ensures.added_len_unchanged ∙ c.loop-p.invariant.adds;
+      gains_len_unchanged = c.take_row-entries.ensures.gains_len_unchanged ∙ c.loop-p.invariant.gaining;
+      log_len_unchanged = c.take_row-entries.ensures.log_len_unchanged ∙ c.loop-p.invariant.logs;
     }
 
 pub overflow_add-p : goal.overflow_add-p
@@ -55,10 +55,10 @@ shape_of-log c = c.loop-p.invariant.logs
 
 pub returns : goal.returns
 returns c =
-    record
-    { by_index = (λ el g old es now i rules k taking adding gained. going-ends _ _ _ _ _ _ _ _ _ _ _ _ _ _ _ _ _ c.loop-p-test.false c.loop-p.invariant el g old es now i rules k taking adding (record { none = gained }))
-    ; upper_bound = omega (arith, c.loop-p.invariant.room)
-    ; added_len_unchanged = c.loop-p.invariant.adds
-    ; gains_len_unchanged = c.loop-p.invariant.gaining
-    ; log_len_unchanged = c.loop-p.invariant.logs
+    record {
+      by_index = (λ el g old es now i rules k taking adding gained. going-ends _ _ _ _ _ _ _ _ _ _ _ _ _ _ _ _ _ c.loop-p-test.false c.loop-p.invariant el g old es now i rules k taking adding (record { none = gained }));
+      upper_bound = omega (arith, c.loop-p.invariant.room);
+      added_len_unchanged = c.loop-p.invariant.adds;
+      gains_len_unchanged = c.loop-p.invariant.gaining;
+      log_len_unchanged = c.loop-p.invariant.logs;
     }

@@ -15,12 +15,12 @@ has_state-requires c = tt
 
 pub returns-then-not-has_state : goal.returns-then-not-has_state
 returns-then-not-has_state c =
-    record
-    { by_index = (λ el g old es now i rules control stirred k lp ew taking adding spared. row_other k _ c.has_state.ensures (ap not c.if-not-has_state.true) c.requires.1 taking adding spared)
-    ; upper_bound = omega (arith, c.requires.1)
-    ; added_len_unchanged = refl
-    ; gains_len_unchanged = refl
-    ; log_len_unchanged = refl
+    record {
+      by_index = (λ el g old es now i rules control stirred k lp ew taking adding spared. row_other k _ c.has_state.ensures (ap not c.if-not-has_state.true) c.requires.1 taking adding spared);
+      upper_bound = omega (arith, c.requires.1);
+      added_len_unchanged = refl;
+      gains_len_unchanged = refl;
+      log_len_unchanged = refl;
     }
 
 pub loop-rest-init : goal.loop-rest-init
@@ -40,12 +40,12 @@ shape_of-log-then-letters-a c = c.loop-rest.invariant.logs
 
 pub returns-then-letters-a : goal.returns-then-letters-a
 returns-then-letters-a c =
-    record
-    { by_index = (λ el g old es now i rules control stirred k lp ew taking adding spared. rowing-past _ _ _ _ _ _ _ _ _ _ _ _ _ _ _ _ _ c.loop-rest.invariant _ (omega (arith, c.loop-rest-test.true)) c.lowest_set-a.ensures c.if-letters-a.true el g old es now i rules control stirred k lp ew (his k _ c.has_state.ensures (ap not c.if-not-has_state.false)) taking adding spared)
-    ; upper_bound = omega (arith, c.loop-rest.invariant.room)
-    ; added_len_unchanged = c.loop-rest.invariant.adds
-    ; gains_len_unchanged = c.loop-rest.invariant.gaining
-    ; log_len_unchanged = c.loop-rest.invariant.logs
+    record {
+      by_index = (λ el g old es now i rules control stirred k lp ew taking adding spared. rowing-past _ _ _ _ _ _ _ _ _ _ _ _ _ _ _ _ _ c.loop-rest.invariant _ (omega (arith, c.loop-rest-test.true)) c.lowest_set-a.ensures c.if-letters-a.true el g old es now i rules control stirred k lp ew (his k _ c.has_state.ensures (ap not c.if-not-has_state.false)) taking adding spared);
+      upper_bound = omega (arith, c.loop-rest.invariant.room);
+      added_len_unchanged = c.loop-rest.invariant.adds;
+      gains_len_unchanged = c.loop-rest.invariant.gaining;
+      log_len_unchanged = c.loop-rest.invariant.logs;
     }
 
 pub overflow_mul-p : goal.overflow_mul-p
@@ -68,12 +68,12 @@ shape_of-log-then-size-entries c = c.take_head-entries.ensures.log_len_unchanged
 
 pub returns-then-size-entries : goal.returns-then-size-entries
 returns-then-size-entries c =
-    record
-    { by_index = (λ el g old es now i rules control stirred k lp ew taking adding spared. rowing-full _ _ _ _ _ _ _ _ _ _ _ _ _ _ _ _ _ c.loop-rest.invariant _ (omega (arith, c.loop-rest-test.true)) c.lowest_set-a.ensures c.if-letters-a.false c.take_head-entries.ensures.by_index c.if-size-entries.true el g old es now i rules control stirred k lp ew (his k _ c.has_state.ensures (ap not c.if-not-has_state.false)) taking adding spared)
-    ; upper_bound = c.take_head-entries.ensures.upper_bound
-    ; added_len_unchanged = c.take_head-entries.ensures.added_len_unchanged ∙ c.loop-rest.invariant.adds
-    ; gains_len_unchanged = c.take_head-entries.ensures.gains_len_unchanged ∙ c.loop-rest.invariant.gaining
-    ; log_len_unchanged = c.take_head-entries.ensures.log_len_unchanged ∙ c.loop-rest.invariant.logs
+    record {
+      by_index = (λ el g old es now i rules control stirred k lp ew taking adding spared. rowing-full _ _ _ _ _ _ _ _ _ _ _ _ _ _ _ _ _ c.loop-rest.invariant _ (omega (arith, c.loop-rest-test.true)) c.lowest_set-a.ensures c.if-letters-a.false c.take_head-entries.ensures.by_index c.if-size-entries.true el g old es now i rules control stirred k lp ew (his k _ c.has_state.ensures (ap not c.if-not-has_state.false)) taking adding spared);
+      upper_bound = c.take_head-entries.ensures.upper_bound;
+      added_len_unchanged = c.take_head-entries.ensures.added_len_unchanged ∙ c.loop-rest.invariant.adds;
+      gains_len_unchanged = c.take_head-entries.ensures.gains_len_unchanged ∙ c.loop-rest.invariant.gaining;
+      log_len_unchanged = c.take_head-entries.ensures.log_len_unchanged ∙ c.loop-rest.invariant.logs;
     }
 
 pub overflow_sub-rest : goal.overflow_sub-rest
@@ -96,10 +96,10 @@ shape_of-log c = c.loop-rest.invariant.logs
 
 pub returns : goal.returns
 returns c =
-    record
-    { by_index = (λ el g old es now i rules control stirred k lp ew taking adding spared. rowing-ends _ _ _ _ _ _ _ _ _ _ _ _ _ _ _ _ _ c.loop-rest.invariant c.loop-rest-test.false el g old es now i rules control stirred k lp ew (his k _ c.has_state.ensures (ap not c.if-not-has_state.false)) taking adding spared)
-    ; upper_bound = omega (arith, c.loop-rest.invariant.room)
-    ; added_len_unchanged = c.loop-rest.invariant.adds
-    ; gains_len_unchanged = c.loop-rest.invariant.gaining
-    ; log_len_unchanged = c.loop-rest.invariant.logs
+    record {
+      by_index = (λ el g old es now i rules control stirred k lp ew taking adding spared. rowing-ends _ _ _ _ _ _ _ _ _ _ _ _ _ _ _ _ _ c.loop-rest.invariant c.loop-rest-test.false el g old es now i rules control stirred k lp ew (his k _ c.has_state.ensures (ap not c.if-not-has_state.false)) taking adding spared);
+      upper_bound = omega (arith, c.loop-rest.invariant.room);
+      added_len_unchanged = c.loop-rest.invariant.adds;
+      gains_len_unchanged = c.loop-rest.invariant.gaining;
+      log_len_unchanged = c.loop-rest.invariant.logs;
     }

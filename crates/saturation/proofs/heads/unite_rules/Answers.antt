@@ -46,7 +46,7 @@ shape_of-sets c = c.loop-r.invariant.long ∙ c.copy_at.ensures.words_len_unchan
 
 pub returns : goal.returns
 returns c =
-    record
-    { all_of = (λ ra el states f chain ok room follows families. uniting-ends el states ok _ room _ f _ _ chain families _ _ (c.loop-r.invariant.goes ra el states f chain ok room follows families) c.loop-r-test.false)
-    ; sets_len_unchanged = c.loop-r.invariant.long ∙ c.copy_at.ensures.words_len_unchanged
+    record {
+      all_of = (λ ra el states f chain ok room follows families. uniting-ends el states ok _ room _ f _ _ chain families _ _ (c.loop-r.invariant.goes ra el states f chain ok room follows families) c.loop-r-test.false);
+      sets_len_unchanged = c.loop-r.invariant.long ∙ c.copy_at.ensures.words_len_unchanged;
     }

@@ -26,9 +26,9 @@ shape_of-nexts c = c.loop-r.invariant.3
 
 pub returns : goal.returns
 returns c =
-    record
-    { linked = all-linked _ _ _ _ _ _ (none_left c.loop-r.r c.loop-r-test.false c.loop-r.invariant.0)
-    ; climbs = climbs _ _ _ _ _ _ (all-linked _ _ _ _ _ _ (none_left c.loop-r.r c.loop-r-test.false c.loop-r.invariant.0))
-    ; firsts_len_unchanged = c.loop-r.invariant.2 ∙ c.fill.ensures.list_len_unchanged
-    ; nexts_len_unchanged = c.loop-r.invariant.3
+    record {
+      linked = all-linked _ _ _ _ _ _ (none_left c.loop-r.r c.loop-r-test.false c.loop-r.invariant.0);
+      climbs = climbs _ _ _ _ _ _ (all-linked _ _ _ _ _ _ (none_left c.loop-r.r c.loop-r-test.false c.loop-r.invariant.0));
+      firsts_len_unchanged = c.loop-r.invariant.2 ∙ c.fill.ensures.list_len_unchanged;
+      nexts_len_unchanged = c.loop-r.invariant.3;
     }

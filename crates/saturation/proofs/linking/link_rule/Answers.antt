@@ -8,18 +8,18 @@ use Rattle.saturation.proofs.linking.link_rule.Goals as goal
 
 pub returns-then-control-state : goal.returns-then-control-state
 returns-then-control-state c =
-    record
-    { linked_from = λ from. linked-beyond _ _ _ _ _ _ _ c.requires.4 (omega (arith, c.requires.1, c.requires.4, c.requires.6)) from _ c.next_rule.ensures (λ l m. omega (arith, l, c.if-control-state.true, c.number_of-state.ensures.0))
-    ; firsts_len_unchanged = refl
-    ; nexts_len_unchanged = search rules
+    record {
+      linked_from = λ from. linked-beyond _ _ _ _ _ _ _ c.requires.4 (omega (arith, c.requires.1, c.requires.4, c.requires.6)) from _ c.next_rule.ensures (λ l m. omega (arith, l, c.if-control-state.true, c.number_of-state.ensures.0));
+      firsts_len_unchanged = refl;
+      nexts_len_unchanged = search rules;
     }
 
 pub returns-then-letters-letter : goal.returns-then-letters-letter
 returns-then-letters-letter c =
-    record
-    { linked_from = λ from. linked-beyond _ _ _ _ _ _ _ c.requires.4 (omega (arith, c.requires.1, c.requires.4, c.requires.6)) from _ c.next_rule-then-letters-letter.ensures (λ l m. omega (arith, m, c.if-letters-letter.true, c.number_of-letter.ensures.0))
-    ; firsts_len_unchanged = refl
-    ; nexts_len_unchanged = search rules
+    record {
+      linked_from = λ from. linked-beyond _ _ _ _ _ _ _ c.requires.4 (omega (arith, c.requires.1, c.requires.4, c.requires.6)) from _ c.next_rule-then-letters-letter.ensures (λ l m. omega (arith, m, c.if-letters-letter.true, c.number_of-letter.ensures.0));
+      firsts_len_unchanged = refl;
+      nexts_len_unchanged = search rules;
     }
 
 pub overflow_mul-head : goal.overflow_mul-head
@@ -42,8 +42,8 @@ bounds-firsts-head-2 c = omega (arith, digits_lt c.if-control-state.false c.if-l
 
 pub returns : goal.returns
 returns c =
-    record
-    { linked_from = λ from. linked-at _ _ _ _ _ _ _ c.requires.4 (omega (arith, c.requires.1, c.requires.4, c.requires.6)) from _ _ c.number_of-state.ensures.0 c.number_of-letter.ensures.0 c.if-control-state.false c.if-letters-letter.false (omega (arith, digits_lt c.if-control-state.false c.if-letters-letter.false, c.requires.5))
-    ; firsts_len_unchanged = search rules
-    ; nexts_len_unchanged = search rules
+    record {
+      linked_from = λ from. linked-at _ _ _ _ _ _ _ c.requires.4 (omega (arith, c.requires.1, c.requires.4, c.requires.6)) from _ _ c.number_of-state.ensures.0 c.number_of-letter.ensures.0 c.if-control-state.false c.if-letters-letter.false (omega (arith, digits_lt c.if-control-state.false c.if-letters-letter.false, c.requires.5));
+      firsts_len_unchanged = search rules;
+      nexts_len_unchanged = search rules;
     }

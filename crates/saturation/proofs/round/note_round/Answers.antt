@@ -49,20 +49,20 @@ shape_of-held-then-size-offered c = c.find_active.ensures.held_len_unchanged
 
 pub returns-then-size-offered : goal.returns-then-size-offered
 returns-then-size-offered c =
-    record
-    { by_index = (λ el g old es i ec se eb reads linked re. let u = found re se c.requires.0.few c.requires.0.some (not_first _ i eb) reads c.find_active.ensures.by_index in let p = c.renew_lines.ensures.by_index el g old es re.ground.raises re.ground.owned.lettered (renewing re) re.passing in ⊎_elim inl (λ k. absurd (omega (arith, k.0, c.if-size-offered.true))) (c.take_rules-offered.ensures.by_index el g old es i es (ground-on re p) u.0 (rules-start re p _ _ _)))
-    ; entries_bound = c.take_rules-offered.ensures.entries_bound
-    ; all_len_unchanged = c.take_rules-offered.ensures.all_len_unchanged ∙ c.renew_lines.ensures.all_len_unchanged
-    ; len_unchanged = c.renew_lines.ensures.len_unchanged
-    ; keys_len_unchanged = c.take_rules-offered.ensures.keys_len_unchanged
-    ; rests_len_unchanged = c.take_rules-offered.ensures.rests_len_unchanged
-    ; hints_len_unchanged = c.take_rules-offered.ensures.hints_len_unchanged
-    ; ends_len_unchanged = c.take_rules-offered.ensures.ends_len_unchanged
-    ; added_len_unchanged = c.take_rules-offered.ensures.added_len_unchanged
-    ; log_len_unchanged = c.take_rules-offered.ensures.log_len_unchanged
-    ; gains_len_unchanged = c.take_rules-offered.ensures.gains_len_unchanged
-    ; stirred_len_unchanged = c.take_rules-offered.ensures.stirred_len_unchanged ∙ c.clear_at.ensures.words_len_unchanged
-    ; held_len_unchanged = c.find_active.ensures.held_len_unchanged
+    record {
+      by_index = (λ el g old es i ec se eb reads linked re. let u = found re se c.requires.0.few c.requires.0.some (not_first _ i eb) reads c.find_active.ensures.by_index in let p = c.renew_lines.ensures.by_index el g old es re.ground.raises re.ground.owned.lettered (renewing re) re.passing in ⊎_elim inl (λ k. absurd (omega (arith, k.0, c.if-size-offered.true))) (c.take_rules-offered.ensures.by_index el g old es i es (ground-on re p) u.0 (rules-start re p _ _ _)));
+      entries_bound = c.take_rules-offered.ensures.entries_bound;
+      all_len_unchanged = c.take_rules-offered.ensures.all_len_unchanged ∙ c.renew_lines.ensures.all_len_unchanged;
+      len_unchanged = c.renew_lines.ensures.len_unchanged;
+      keys_len_unchanged = c.take_rules-offered.ensures.keys_len_unchanged;
+      rests_len_unchanged = c.take_rules-offered.ensures.rests_len_unchanged;
+      hints_len_unchanged = c.take_rules-offered.ensures.hints_len_unchanged;
+      ends_len_unchanged = c.take_rules-offered.ensures.ends_len_unchanged;
+      added_len_unchanged = c.take_rules-offered.ensures.added_len_unchanged;
+      log_len_unchanged = c.take_rules-offered.ensures.log_len_unchanged;
+      gains_len_unchanged = c.take_rules-offered.ensures.gains_len_unchanged;
+      stirred_len_unchanged = c.take_rules-offered.ensures.stirred_len_unchanged ∙ c.clear_at.ensures.words_len_unchanged;
+      held_len_unchanged = c.find_active.ensures.held_len_unchanged;
     }
 
 pub overflow_cast-sizes-2 : goal.overflow_cast-sizes-2
@@ -106,18 +106,18 @@ shape_of-held c = c.find_active.ensures.held_len_unchanged
 
 pub returns : goal.returns
 returns c =
-    record
-    { by_index = (λ el g old es i ec se eb reads linked re. let u = found re se c.requires.0.few c.requires.0.some (not_first _ i eb) reads c.find_active.ensures.by_index in let p = c.renew_lines.ensures.by_index el g old es re.ground.raises re.ground.owned.lettered (renewing re) re.passing in ⊎_elim (λ k. absurd (omega (arith, k.0, c.if-size-offered.false))) (λ k. ⊎_elim inl (λ s. inr (s.0, record { half-gains = _; half-log = _; half-added = _; half_count = _; to = k.1; stepped = s.1 }, u.1, p.grew)) (c.take_heads-entries.ensures.by_index el g old es k.1.stepped.after i _ (heads-ready re k.1 ec linked) k.1.stepped.taking k.1.stepped.adding k.1.stepped.gained)) (c.take_rules-offered.ensures.by_index el g old es i es (ground-on re p) u.0 (rules-start re p _ _ _)))
-    ; entries_bound = (c.take_heads-entries.ensures.upper_bound, c.take_rules-offered.ensures.entries_bound.1)
-    ; all_len_unchanged = c.take_rules-offered.ensures.all_len_unchanged ∙ c.renew_lines.ensures.all_len_unchanged
-    ; len_unchanged = c.renew_lines.ensures.len_unchanged
-    ; keys_len_unchanged = c.take_rules-offered.ensures.keys_len_unchanged
-    ; rests_len_unchanged = c.take_rules-offered.ensures.rests_len_unchanged
-    ; hints_len_unchanged = c.take_rules-offered.ensures.hints_len_unchanged
-    ; ends_len_unchanged = c.take_rules-offered.ensures.ends_len_unchanged
-    ; added_len_unchanged = c.take_heads-entries.ensures.added_len_unchanged ∙ c.take_rules-offered.ensures.added_len_unchanged
-    ; log_len_unchanged = c.take_heads-entries.ensures.log_len_unchanged ∙ c.take_rules-offered.ensures.log_len_unchanged
-    ; gains_len_unchanged = c.take_heads-entries.ensures.gains_len_unchanged ∙ c.take_rules-offered.ensures.gains_len_unchanged
-    ; stirred_len_unchanged = c.take_rules-offered.ensures.stirred_len_unchanged ∙ c.clear_at.ensures.words_len_unchanged
-    ; held_len_unchanged = c.find_active.ensures.held_len_unchanged
+    record {
+      by_index = (λ el g old es i ec se eb reads linked re. let u = found re se c.requires.0.few c.requires.0.some (not_first _ i eb) reads c.find_active.ensures.by_index in let p = c.renew_lines.ensures.by_index el g old es re.ground.raises re.ground.owned.lettered (renewing re) re.passing in ⊎_elim (λ k. absurd (omega (arith, k.0, c.if-size-offered.false))) (λ k. ⊎_elim inl (λ s. inr (s.0, record { half-gains = _; half-log = _; half-added = _; half_count = _; to = k.1; stepped = s.1 }, u.1, p.grew)) (c.take_heads-entries.ensures.by_index el g old es k.1.stepped.after i _ (heads-ready re k.1 ec linked) k.1.stepped.taking k.1.stepped.adding k.1.stepped.gained)) (c.take_rules-offered.ensures.by_index el g old es i es (ground-on re p) u.0 (rules-start re p _ _ _)));
+      entries_bound = (c.take_heads-entries.ensures.upper_bound, c.take_rules-offered.ensures.entries_bound.1);
+      all_len_unchanged = c.take_rules-offered.ensures.all_len_unchanged ∙ c.renew_lines.ensures.all_len_unchanged;
+      len_unchanged = c.renew_lines.ensures.len_unchanged;
+      keys_len_unchanged = c.take_rules-offered.ensures.keys_len_unchanged;
+      rests_len_unchanged = c.take_rules-offered.ensures.rests_len_unchanged;
+      hints_len_unchanged = c.take_rules-offered.ensures.hints_len_unchanged;
+      ends_len_unchanged = c.take_rules-offered.ensures.ends_len_unchanged;
+      added_len_unchanged = c.take_heads-entries.ensures.added_len_unchanged ∙ c.take_rules-offered.ensures.added_len_unchanged;
+      log_len_unchanged = c.take_heads-entries.ensures.log_len_unchanged ∙ c.take_rules-offered.ensures.log_len_unchanged;
+      gains_len_unchanged = c.take_heads-entries.ensures.gains_len_unchanged ∙ c.take_rules-offered.ensures.gains_len_unchanged;
+      stirred_len_unchanged = c.take_rules-offered.ensures.stirred_len_unchanged ∙ c.clear_at.ensures.words_len_unchanged;
+      held_len_unchanged = c.find_active.ensures.held_len_unchanged;
     }

@@ -28,23 +28,23 @@ shape_of-added-then-size-counts c = c.note_round-counts.ensures.added_len_unchan
 
 pub returns-then-size-counts : goal.returns-then-size-counts
 returns-then-size-counts c =
-    record
-    { by_index = (λ el g old es i ec se eb reads linked re. ⊎_elim inl (λ k. absurd (omega (arith, k.0, c.if-size-counts.true))) (c.note_round-counts.ensures.by_index el g old es i ec se eb reads linked re))
-    ; entries_bound = (c.note_round-counts.ensures.entries_bound.0, c.note_round-counts.ensures.entries_bound.1, c.requires.0.masked.few)
-    ; all_len_unchanged = c.note_round-counts.ensures.all_len_unchanged
-    ; len_unchanged = c.note_round-counts.ensures.len_unchanged
-    ; keys_len_unchanged = c.note_round-counts.ensures.keys_len_unchanged
-    ; rests_len_unchanged = c.note_round-counts.ensures.rests_len_unchanged
-    ; hints_len_unchanged = c.note_round-counts.ensures.hints_len_unchanged
-    ; fresh_len_unchanged = refl
-    ; alive_len_unchanged = refl
-    ; ends_len_unchanged = c.note_round-counts.ensures.ends_len_unchanged
-    ; added_len_unchanged = c.note_round-counts.ensures.added_len_unchanged
-    ; log_len_unchanged = c.note_round-counts.ensures.log_len_unchanged
-    ; news_len_unchanged = refl
-    ; gains_len_unchanged = c.note_round-counts.ensures.gains_len_unchanged
-    ; stirred_len_unchanged = c.note_round-counts.ensures.stirred_len_unchanged
-    ; held_len_unchanged = c.note_round-counts.ensures.held_len_unchanged
+    record {
+      by_index = (λ el g old es i ec se eb reads linked re. ⊎_elim inl (λ k. absurd (omega (arith, k.0, c.if-size-counts.true))) (c.note_round-counts.ensures.by_index el g old es i ec se eb reads linked re));
+      entries_bound = (c.note_round-counts.ensures.entries_bound.0, c.note_round-counts.ensures.entries_bound.1, c.requires.0.masked.few);
+      all_len_unchanged = c.note_round-counts.ensures.all_len_unchanged;
+      len_unchanged = c.note_round-counts.ensures.len_unchanged;
+      keys_len_unchanged = c.note_round-counts.ensures.keys_len_unchanged;
+      rests_len_unchanged = c.note_round-counts.ensures.rests_len_unchanged;
+      hints_len_unchanged = c.note_round-counts.ensures.hints_len_unchanged;
+      fresh_len_unchanged = refl;
+      alive_len_unchanged = refl;
+      ends_len_unchanged = c.note_round-counts.ensures.ends_len_unchanged;
+      added_len_unchanged = c.note_round-counts.ensures.added_len_unchanged;
+      log_len_unchanged = c.note_round-counts.ensures.log_len_unchanged;
+      news_len_unchanged = refl;
+      gains_len_unchanged = c.note_round-counts.ensures.gains_len_unchanged;
+      stirred_len_unchanged = c.note_round-counts.ensures.stirred_len_unchanged;
+      held_len_unchanged = c.note_round-counts.ensures.held_len_unchanged;
     }
 
 pub overflow_cast-letters : goal.overflow_cast-letters
@@ -91,21 +91,21 @@ shape_of-stirred c = c.note_round-counts.ensures.stirred_len_unchanged
 
 pub returns : goal.returns
 returns c =
-    record
-    { by_index = (λ el g old es i ec se eb reads linked re. ⊎_elim (λ k. absurd (omega (arith, k.0, c.if-size-counts.false))) (λ k. let to = k.1.to in let er = rows_are re ec in let st = k.1.stepped in let closed = c.close_heads.ensures.by_index el g old es _ re.layout re.rows ec se re.ground.owned.lettered (kept_next re to er st) (further re to er st) to.pool.hold k.3 (adding-next re to er st) (gains-next re to er st) (within-next re to er st) re.ground.growth.numbered re.ground.growth.dead in inr (k.0, rest-again re to er st _ _ _ _ closed.0 c.close_heads.ensures.elsewhere.0 closed.1 closed.2 closed.3 k.2)) (c.note_round-counts.ensures.by_index el g old es i ec se eb reads linked re))
-    ; entries_bound = (c.note_round-counts.ensures.entries_bound.0, c.note_round-counts.ensures.entries_bound.1, c.close_heads.ensures.elsewhere.1)
-    ; all_len_unchanged = c.close_heads.ensures.all_len_unchanged ∙ c.note_round-counts.ensures.all_len_unchanged
-    ; len_unchanged = c.close_heads.ensures.len_unchanged ∙ c.note_round-counts.ensures.len_unchanged
-    ; keys_len_unchanged = c.note_round-counts.ensures.keys_len_unchanged
-    ; rests_len_unchanged = c.note_round-counts.ensures.rests_len_unchanged
-    ; hints_len_unchanged = c.note_round-counts.ensures.hints_len_unchanged
-    ; fresh_len_unchanged = c.close_heads.ensures.fresh_len_unchanged
-    ; alive_len_unchanged = c.close_heads.ensures.alive_len_unchanged
-    ; ends_len_unchanged = c.note_round-counts.ensures.ends_len_unchanged
-    ; added_len_unchanged = c.close_heads.ensures.added_len_unchanged ∙ c.note_round-counts.ensures.added_len_unchanged
-    ; log_len_unchanged = c.note_round-counts.ensures.log_len_unchanged
-    ; news_len_unchanged = c.close_heads.ensures.news_len_unchanged
-    ; gains_len_unchanged = c.close_heads.ensures.gains_len_unchanged ∙ c.note_round-counts.ensures.gains_len_unchanged
-    ; stirred_len_unchanged = c.note_round-counts.ensures.stirred_len_unchanged
-    ; held_len_unchanged = c.note_round-counts.ensures.held_len_unchanged
+    record {
+      by_index = (λ el g old es i ec se eb reads linked re. ⊎_elim (λ k. absurd (omega (arith, k.0, c.if-size-counts.false))) (λ k. let to = k.1.to in let er = rows_are re ec in let st = k.1.stepped in let closed = c.close_heads.ensures.by_index el g old es _ re.layout re.rows ec se re.ground.owned.lettered (kept_next re to er st) (further re to er st) to.pool.hold k.3 (adding-next re to er st) (gains-next re to er st) (within-next re to er st) re.ground.growth.numbered re.ground.growth.dead in inr (k.0, rest-again re to er st _ _ _ _ closed.0 c.close_heads.ensures.elsewhere.0 closed.1 closed.2 closed.3 k.2)) (c.note_round-counts.ensures.by_index el g old es i ec se eb reads linked re));
+      entries_bound = (c.note_round-counts.ensures.entries_bound.0, c.note_round-counts.ensures.entries_bound.1, c.close_heads.ensures.elsewhere.1);
+      all_len_unchanged = c.close_heads.ensures.all_len_unchanged ∙ c.note_round-counts.ensures.all_len_unchanged;
+      len_unchanged = c.close_heads.ensures.len_unchanged ∙ c.note_round-counts.ensures.len_unchanged;
+      keys_len_unchanged = c.note_round-counts.ensures.keys_len_unchanged;
+      rests_len_unchanged = c.note_round-counts.ensures.rests_len_unchanged;
+      hints_len_unchanged = c.note_round-counts.ensures.hints_len_unchanged;
+      fresh_len_unchanged = c.close_heads.ensures.fresh_len_unchanged;
+      alive_len_unchanged = c.close_heads.ensures.alive_len_unchanged;
+      ends_len_unchanged = c.note_round-counts.ensures.ends_len_unchanged;
+      added_len_unchanged = c.close_heads.ensures.added_len_unchanged ∙ c.note_round-counts.ensures.added_len_unchanged;
+      log_len_unchanged = c.note_round-counts.ensures.log_len_unchanged;
+      news_len_unchanged = c.close_heads.ensures.news_len_unchanged;
+      gains_len_unchanged = c.close_heads.ensures.gains_len_unchanged ∙ c.note_round-counts.ensures.gains_len_unchanged;
+      stirred_len_unchanged = c.note_round-counts.ensures.stirred_len_unchanged;
+      held_len_unchanged = c.note_round-counts.ensures.held_len_unchanged;
     }

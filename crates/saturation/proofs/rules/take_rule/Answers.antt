@@ -53,18 +53,18 @@ give-direct-requires c = (c.requires.0.noting, c.requires.1, c.requires.0.most, 
 
 pub returns-then-is_direct : goal.returns-then-is_direct
 returns-then-is_direct c =
-    record
-    { by_index = (λ el g old es i now gr to. eloises-gives gr c.args.r c.requires.6 to to.pool (direct gr c.args.r c.requires.6 c.byte_of.ensures c.byte_of-then-is_direct.ensures (c.is_direct.ensures c.if-is_direct.true).1) c.byte_of-p.ensures c.byte_of-a.ensures refl c.first_of-first.ensures (c.is_direct.ensures c.if-is_direct.true).0 c.give-direct.ensures.by_index)
-    ; entries_bound = (c.give-direct.ensures.upper_bound, c.requires.2)
-    ; all_len_unchanged = refl
-    ; keys_len_unchanged = refl
-    ; rests_len_unchanged = refl
-    ; hints_len_unchanged = refl
-    ; ends_len_unchanged = refl
-    ; stirred_len_unchanged = refl
-    ; gains_len_unchanged = c.give-direct.ensures.gains_len_unchanged
-    ; added_len_unchanged = c.give-direct.ensures.added_len_unchanged
-    ; log_len_unchanged = c.give-direct.ensures.log_len_unchanged
+    record {
+      by_index = (λ el g old es i now gr to. eloises-gives gr c.args.r c.requires.6 to to.pool (direct gr c.args.r c.requires.6 c.byte_of.ensures c.byte_of-then-is_direct.ensures (c.is_direct.ensures c.if-is_direct.true).1) c.byte_of-p.ensures c.byte_of-a.ensures refl c.first_of-first.ensures (c.is_direct.ensures c.if-is_direct.true).0 c.give-direct.ensures.by_index);
+      entries_bound = (c.give-direct.ensures.upper_bound, c.requires.2);
+      all_len_unchanged = refl;
+      keys_len_unchanged = refl;
+      rests_len_unchanged = refl;
+      hints_len_unchanged = refl;
+      ends_len_unchanged = refl;
+      stirred_len_unchanged = refl;
+      gains_len_unchanged = c.give-direct.ensures.gains_len_unchanged;
+      added_len_unchanged = c.give-direct.ensures.added_len_unchanged;
+      log_len_unchanged = c.give-direct.ensures.log_len_unchanged;
     }
 
 pub more_of_rule-lines-requires : goal.more_of_rule-lines-requires
@@ -81,18 +81,18 @@ keep_more-requires c = (omega (arith, next_row c.args.r c.args.rulecount c.args.
 
 pub returns-then-has_state : goal.returns-then-has_state
 returns-then-has_state c =
-    record
-    { by_index = (λ el g old es i now gr to. (let m = c.more_of_rule-lines.ensures.by_index el g old es i (rule_of g c.args.r) gr.raises gr.owned.lettered (bytes gr c.args.r c.requires.6) (sound gr c.args.r c.requires.6) (omega (arith, gr.good.ranged.control)) gr.growth (gr.pops (rule_of g c.args.r) (there gr c.args.r c.requires.6)) (no-sets 16 0) to.pool in abelards-keeps gr c.args.r c.requires.6 to m.0 m.1 c.byte_of-p.ensures c.byte_of-a.ensures (sym c.has_state.ensures ∙ c.if-has_state.true) c.keep_more.ensures.joined c.keep_more.ensures.x_value c.keep_more.ensures.by_index c.requires.1))
-    ; entries_bound = (omega (arith, c.requires.1), c.more_of_rule-lines.ensures.upper_bound)
-    ; all_len_unchanged = c.more_of_rule-lines.ensures.all_len_unchanged
-    ; keys_len_unchanged = c.more_of_rule-lines.ensures.keys_len_unchanged
-    ; rests_len_unchanged = c.more_of_rule-lines.ensures.rests_len_unchanged
-    ; hints_len_unchanged = c.more_of_rule-lines.ensures.hints_len_unchanged
-    ; ends_len_unchanged = c.keep_more.ensures.ends_len_unchanged
-    ; stirred_len_unchanged = c.keep_more.ensures.stirred_len_unchanged
-    ; gains_len_unchanged = refl
-    ; added_len_unchanged = refl
-    ; log_len_unchanged = refl
+    record {
+      by_index = (λ el g old es i now gr to. (let m = c.more_of_rule-lines.ensures.by_index el g old es i (rule_of g c.args.r) gr.raises gr.owned.lettered (bytes gr c.args.r c.requires.6) (sound gr c.args.r c.requires.6) (omega (arith, gr.good.ranged.control)) gr.growth (gr.pops (rule_of g c.args.r) (there gr c.args.r c.requires.6)) (no-sets 16 0) to.pool in abelards-keeps gr c.args.r c.requires.6 to m.0 m.1 c.byte_of-p.ensures c.byte_of-a.ensures (sym c.has_state.ensures ∙ c.if-has_state.true) c.keep_more.ensures.joined c.keep_more.ensures.x_value c.keep_more.ensures.by_index c.requires.1));
+      entries_bound = (omega (arith, c.requires.1), c.more_of_rule-lines.ensures.upper_bound);
+      all_len_unchanged = c.more_of_rule-lines.ensures.all_len_unchanged;
+      keys_len_unchanged = c.more_of_rule-lines.ensures.keys_len_unchanged;
+      rests_len_unchanged = c.more_of_rule-lines.ensures.rests_len_unchanged;
+      hints_len_unchanged = c.more_of_rule-lines.ensures.hints_len_unchanged;
+      ends_len_unchanged = c.keep_more.ensures.ends_len_unchanged;
+      stirred_len_unchanged = c.keep_more.ensures.stirred_len_unchanged;
+      gains_len_unchanged = refl;
+      added_len_unchanged = refl;
+      log_len_unchanged = refl;
     }
 
 pub overflow_mul-p-2 : goal.overflow_mul-p-2
@@ -112,16 +112,16 @@ give-entries-requires c = (c.requires.0.noting, c.requires.1, c.requires.0.most,
 
 pub returns : goal.returns
 returns c =
-    record
-    { by_index = (λ el g old es i now gr to. (let m = c.more_of_rule-lines.ensures.by_index el g old es i (rule_of g c.args.r) gr.raises gr.owned.lettered (bytes gr c.args.r c.requires.6) (sound gr c.args.r c.requires.6) (omega (arith, gr.good.ranged.control)) gr.growth (gr.pops (rule_of g c.args.r) (there gr c.args.r c.requires.6)) (no-sets 16 0) to.pool in eloises-gives gr c.args.r c.requires.6 to m.0 m.1 c.byte_of-p.ensures c.byte_of-a.ensures refl c.first_of-first.ensures (sym c.has_state.ensures ∙ c.if-has_state.false) c.give-entries.ensures.by_index))
-    ; entries_bound = (c.give-entries.ensures.upper_bound, c.more_of_rule-lines.ensures.upper_bound)
-    ; all_len_unchanged = c.more_of_rule-lines.ensures.all_len_unchanged
-    ; keys_len_unchanged = c.more_of_rule-lines.ensures.keys_len_unchanged
-    ; rests_len_unchanged = c.more_of_rule-lines.ensures.rests_len_unchanged
-    ; hints_len_unchanged = c.more_of_rule-lines.ensures.hints_len_unchanged
-    ; ends_len_unchanged = refl
-    ; stirred_len_unchanged = refl
-    ; gains_len_unchanged = c.give-entries.ensures.gains_len_unchanged
-    ; added_len_unchanged = c.give-entries.ensures.added_len_unchanged
-    ; log_len_unchanged = c.give-entries.ensures.log_len_unchanged
+    record {
+      by_index = (λ el g old es i now gr to. (let m = c.more_of_rule-lines.ensures.by_index el g old es i (rule_of g c.args.r) gr.raises gr.owned.lettered (bytes gr c.args.r c.requires.6) (sound gr c.args.r c.requires.6) (omega (arith, gr.good.ranged.control)) gr.growth (gr.pops (rule_of g c.args.r) (there gr c.args.r c.requires.6)) (no-sets 16 0) to.pool in eloises-gives gr c.args.r c.requires.6 to m.0 m.1 c.byte_of-p.ensures c.byte_of-a.ensures refl c.first_of-first.ensures (sym c.has_state.ensures ∙ c.if-has_state.false) c.give-entries.ensures.by_index));
+      entries_bound = (c.give-entries.ensures.upper_bound, c.more_of_rule-lines.ensures.upper_bound);
+      all_len_unchanged = c.more_of_rule-lines.ensures.all_len_unchanged;
+      keys_len_unchanged = c.more_of_rule-lines.ensures.keys_len_unchanged;
+      rests_len_unchanged = c.more_of_rule-lines.ensures.rests_len_unchanged;
+      hints_len_unchanged = c.more_of_rule-lines.ensures.hints_len_unchanged;
+      ends_len_unchanged = refl;
+      stirred_len_unchanged = refl;
+      gains_len_unchanged = c.give-entries.ensures.gains_len_unchanged;
+      added_len_unchanged = c.give-entries.ensures.added_len_unchanged;
+      log_len_unchanged = c.give-entries.ensures.log_len_unchanged;
     }

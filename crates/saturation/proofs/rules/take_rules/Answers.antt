@@ -47,18 +47,18 @@ shape_of-log-then-size-counts c = c.take_word-counts.ensures.log_len_unchanged �
 
 pub returns-then-size-counts : goal.returns-then-size-counts
 returns-then-size-counts c =
-    record
-    { by_index = wording-full c.loop-w.invariant c.take_word-counts.ensures.by_index c.if-size-counts.true
-    ; entries_bound = (c.take_word-counts.ensures.entries_bound.0, omega (arith, c.take_word-counts.ensures.entries_bound.1, c.loop-w.invariant.kept.keyed))
-    ; all_len_unchanged = c.take_word-counts.ensures.all_len_unchanged ∙ c.loop-w.invariant.kept.areas
-    ; keys_len_unchanged = c.take_word-counts.ensures.keys_len_unchanged ∙ c.loop-w.invariant.kept.keyed
-    ; rests_len_unchanged = c.take_word-counts.ensures.rests_len_unchanged ∙ c.loop-w.invariant.kept.resting
-    ; hints_len_unchanged = c.take_word-counts.ensures.hints_len_unchanged ∙ c.loop-w.invariant.kept.hinting
-    ; ends_len_unchanged = c.take_word-counts.ensures.ends_len_unchanged ∙ c.loop-w.invariant.kept.ending
-    ; stirred_len_unchanged = c.take_word-counts.ensures.stirred_len_unchanged ∙ c.loop-w.invariant.kept.stirs
-    ; gains_len_unchanged = c.take_word-counts.ensures.gains_len_unchanged ∙ c.loop-w.invariant.kept.gaining
-    ; added_len_unchanged = c.take_word-counts.ensures.added_len_unchanged ∙ c.loop-w.invariant.kept.adds
-    ; log_len_unchanged = c.take_word-counts.ensures.log_len_unchanged ∙ c.loop-w.invariant.kept.logs
+    record {
+      by_index = wording-full c.loop-w.invariant c.take_word-counts.ensures.by_index c.if-size-counts.true;
+      entries_bound = (c.take_word-counts.ensures.entries_bound.0, omega (arith, c.take_word-counts.ensures.entries_bound.1, c.loop-w.invariant.kept.keyed));
+      all_len_unchanged = c.take_word-counts.ensures.all_len_unchanged ∙ c.loop-w.invariant.kept.areas;
+      keys_len_unchanged = c.take_word-counts.ensures.keys_len_unchanged ∙ c.loop-w.invariant.kept.keyed;
+      rests_len_unchanged = c.take_word-counts.ensures.rests_len_unchanged ∙ c.loop-w.invariant.kept.resting;
+      hints_len_unchanged = c.take_word-counts.ensures.hints_len_unchanged ∙ c.loop-w.invariant.kept.hinting;
+      ends_len_unchanged = c.take_word-counts.ensures.ends_len_unchanged ∙ c.loop-w.invariant.kept.ending;
+      stirred_len_unchanged = c.take_word-counts.ensures.stirred_len_unchanged ∙ c.loop-w.invariant.kept.stirs;
+      gains_len_unchanged = c.take_word-counts.ensures.gains_len_unchanged ∙ c.loop-w.invariant.kept.gaining;
+      added_len_unchanged = c.take_word-counts.ensures.added_len_unchanged ∙ c.loop-w.invariant.kept.adds;
+      log_len_unchanged = c.take_word-counts.ensures.log_len_unchanged ∙ c.loop-w.invariant.kept.logs;
     }
 
 pub overflow_add-w : goal.overflow_add-w
@@ -99,16 +99,16 @@ shape_of-log c = c.loop-w.invariant.kept.logs
 
 pub returns : goal.returns
 returns c =
-    record
-    { by_index = wording-ends c.loop-w.invariant c.loop-w-test.false c.requires.0.some
-    ; entries_bound = (omega (arith, c.loop-w.invariant.kept.room), c.loop-w.invariant.kept.lined)
-    ; all_len_unchanged = c.loop-w.invariant.kept.areas
-    ; keys_len_unchanged = c.loop-w.invariant.kept.keyed
-    ; rests_len_unchanged = c.loop-w.invariant.kept.resting
-    ; hints_len_unchanged = c.loop-w.invariant.kept.hinting
-    ; ends_len_unchanged = c.loop-w.invariant.kept.ending
-    ; stirred_len_unchanged = c.loop-w.invariant.kept.stirs
-    ; gains_len_unchanged = c.loop-w.invariant.kept.gaining
-    ; added_len_unchanged = c.loop-w.invariant.kept.adds
-    ; log_len_unchanged = c.loop-w.invariant.kept.logs
+    record {
+      by_index = wording-ends c.loop-w.invariant c.loop-w-test.false c.requires.0.some;
+      entries_bound = (omega (arith, c.loop-w.invariant.kept.room), c.loop-w.invariant.kept.lined);
+      all_len_unchanged = c.loop-w.invariant.kept.areas;
+      keys_len_unchanged = c.loop-w.invariant.kept.keyed;
+      rests_len_unchanged = c.loop-w.invariant.kept.resting;
+      hints_len_unchanged = c.loop-w.invariant.kept.hinting;
+      ends_len_unchanged = c.loop-w.invariant.kept.ending;
+      stirred_len_unchanged = c.loop-w.invariant.kept.stirs;
+      gains_len_unchanged = c.loop-w.invariant.kept.gaining;
+      added_len_unchanged = c.loop-w.invariant.kept.adds;
+      log_len_unchanged = c.loop-w.invariant.kept.logs;
     }

@@ -42,18 +42,18 @@ shape_of-log-then-rulecount-r c = c.loop-rest.invariant.kept.logs
 
 pub returns-then-rulecount-r : goal.returns-then-rulecount-r
 returns-then-rulecount-r c =
-    record
-    { by_index = going-past c.loop-rest.invariant _ (omega (arith, c.loop-rest-test.true)) c.lowest_set.ensures c.if-rulecount-r.true
-    ; entries_bound = (omega (arith, c.loop-rest.invariant.kept.room), c.loop-rest.invariant.kept.lined)
-    ; all_len_unchanged = c.loop-rest.invariant.kept.areas
-    ; keys_len_unchanged = c.loop-rest.invariant.kept.keyed
-    ; rests_len_unchanged = c.loop-rest.invariant.kept.resting
-    ; hints_len_unchanged = c.loop-rest.invariant.kept.hinting
-    ; ends_len_unchanged = c.loop-rest.invariant.kept.ending
-    ; stirred_len_unchanged = c.loop-rest.invariant.kept.stirs
-    ; gains_len_unchanged = c.loop-rest.invariant.kept.gaining
-    ; added_len_unchanged = c.loop-rest.invariant.kept.adds
-    ; log_len_unchanged = c.loop-rest.invariant.kept.logs
+    record {
+      by_index = going-past c.loop-rest.invariant _ (omega (arith, c.loop-rest-test.true)) c.lowest_set.ensures c.if-rulecount-r.true;
+      entries_bound = (omega (arith, c.loop-rest.invariant.kept.room), c.loop-rest.invariant.kept.lined);
+      all_len_unchanged = c.loop-rest.invariant.kept.areas;
+      keys_len_unchanged = c.loop-rest.invariant.kept.keyed;
+      rests_len_unchanged = c.loop-rest.invariant.kept.resting;
+      hints_len_unchanged = c.loop-rest.invariant.kept.hinting;
+      ends_len_unchanged = c.loop-rest.invariant.kept.ending;
+      stirred_len_unchanged = c.loop-rest.invariant.kept.stirs;
+      gains_len_unchanged = c.loop-rest.invariant.kept.gaining;
+      added_len_unchanged = c.loop-rest.invariant.kept.adds;
+      log_len_unchanged = c.loop-rest.invariant.kept.logs;
     }
 
 pub take_rule-counts-requires : goal.take_rule-counts-requires
@@ -88,18 +88,18 @@ shape_of-log-then-size-counts c = c.take_rule-counts.ensures.log_len_unchanged �
 
 pub returns-then-size-counts : goal.returns-then-size-counts
 returns-then-size-counts c =
-    record
-    { by_index = going-full c.loop-rest.invariant _ (omega (arith, c.loop-rest-test.true)) c.lowest_set.ensures c.take_rule-counts.ensures.by_index c.if-size-counts.true
-    ; entries_bound = (c.take_rule-counts.ensures.entries_bound.0, omega (arith, c.take_rule-counts.ensures.entries_bound.1, c.loop-rest.invariant.kept.keyed))
-    ; all_len_unchanged = c.take_rule-counts.ensures.all_len_unchanged ∙ c.loop-rest.invariant.kept.areas
-    ; keys_len_unchanged = c.take_rule-counts.ensures.keys_len_unchanged ∙ c.loop-rest.invariant.kept.keyed
-    ; rests_len_unchanged = c.take_rule-counts.ensures.rests_len_unchanged ∙ c.loop-rest.invariant.kept.resting
-    ; hints_len_unchanged = c.take_rule-counts.ensures.hints_len_unchanged ∙ c.loop-rest.invariant.kept.hinting
-    ; ends_len_unchanged = c.take_rule-counts.ensures.ends_len_unchanged ∙ c.loop-rest.invariant.kept.ending
-    ; stirred_len_unchanged = c.take_rule-counts.ensures.stirred_len_unchanged ∙ c.loop-rest.invariant.kept.stirs
-    ; gains_len_unchanged = c.take_rule-counts.ensures.gains_len_unchanged ∙ c.loop-rest.invariant.kept.gaining
-    ; added_len_unchanged = c.take_rule-counts.ensures.added_len_unchanged ∙ c.loop-rest.invariant.kept.adds
-    ; log_len_unchanged = c.take_rule-counts.ensures.log_len_unchanged ∙ c.loop-rest.invariant.kept.logs
+    record {
+      by_index = going-full c.loop-rest.invariant _ (omega (arith, c.loop-rest-test.true)) c.lowest_set.ensures c.take_rule-counts.ensures.by_index c.if-size-counts.true;
+      entries_bound = (c.take_rule-counts.ensures.entries_bound.0, omega (arith, c.take_rule-counts.ensures.entries_bound.1, c.loop-rest.invariant.kept.keyed));
+      all_len_unchanged = c.take_rule-counts.ensures.all_len_unchanged ∙ c.loop-rest.invariant.kept.areas;
+      keys_len_unchanged = c.take_rule-counts.ensures.keys_len_unchanged ∙ c.loop-rest.invariant.kept.keyed;
+      rests_len_unchanged = c.take_rule-counts.ensures.rests_len_unchanged ∙ c.loop-rest.invariant.kept.resting;
+      hints_len_unchanged = c.take_rule-counts.ensures.hints_len_unchanged ∙ c.loop-rest.invariant.kept.hinting;
+      ends_len_unchanged = c.take_rule-counts.ensures.ends_len_unchanged ∙ c.loop-rest.invariant.kept.ending;
+      stirred_len_unchanged = c.take_rule-counts.ensures.stirred_len_unchanged ∙ c.loop-rest.invariant.kept.stirs;
+      gains_len_unchanged = c.take_rule-counts.ensures.gains_len_unchanged ∙ c.loop-rest.invariant.kept.gaining;
+      added_len_unchanged = c.take_rule-counts.ensures.added_len_unchanged ∙ c.loop-rest.invariant.kept.adds;
+      log_len_unchanged = c.take_rule-counts.ensures.log_len_unchanged ∙ c.loop-rest.invariant.kept.logs;
     }
 
 pub overflow_sub-rest : goal.overflow_sub-rest
@@ -140,16 +140,16 @@ shape_of-log c = c.loop-rest.invariant.kept.logs
 
 pub returns : goal.returns
 returns c =
-    record
-    { by_index = going-ends c.loop-rest.invariant (omega (arith, c.loop-rest-test.false))
-    ; entries_bound = (omega (arith, c.loop-rest.invariant.kept.room), c.loop-rest.invariant.kept.lined)
-    ; all_len_unchanged = c.loop-rest.invariant.kept.areas
-    ; keys_len_unchanged = c.loop-rest.invariant.kept.keyed
-    ; rests_len_unchanged = c.loop-rest.invariant.kept.resting
-    ; hints_len_unchanged = c.loop-rest.invariant.kept.hinting
-    ; ends_len_unchanged = c.loop-rest.invariant.kept.ending
-    ; stirred_len_unchanged = c.loop-rest.invariant.kept.stirs
-    ; gains_len_unchanged = c.loop-rest.invariant.kept.gaining
-    ; added_len_unchanged = c.loop-rest.invariant.kept.adds
-    ; log_len_unchanged = c.loop-rest.invariant.kept.logs
+    record {
+      by_index = going-ends c.loop-rest.invariant (omega (arith, c.loop-rest-test.false));
+      entries_bound = (omega (arith, c.loop-rest.invariant.kept.room), c.loop-rest.invariant.kept.lined);
+      all_len_unchanged = c.loop-rest.invariant.kept.areas;
+      keys_len_unchanged = c.loop-rest.invariant.kept.keyed;
+      rests_len_unchanged = c.loop-rest.invariant.kept.resting;
+      hints_len_unchanged = c.loop-rest.invariant.kept.hinting;
+      ends_len_unchanged = c.loop-rest.invariant.kept.ending;
+      stirred_len_unchanged = c.loop-rest.invariant.kept.stirs;
+      gains_len_unchanged = c.loop-rest.invariant.kept.gaining;
+      added_len_unchanged = c.loop-rest.invariant.kept.adds;
+      log_len_unchanged = c.loop-rest.invariant.kept.logs;
     }

@@ -11,8 +11,8 @@ shape_of-work c = ap length c.clear-2.ensures ∙ length-replicate _ _
 
 pub returns : goal.returns
 returns c =
-    record
-    { work_after = refused-left _ _ _ _ c.clear.ensures c.clear-2.ensures
-    ; begun_len_unchanged = ap length c.clear.ensures ∙ length-replicate _ _
-    ; work_len_unchanged = ap length c.clear-2.ensures ∙ length-replicate _ _
+    record {
+      work_after = refused-left _ _ _ _ c.clear.ensures c.clear-2.ensures;
+      begun_len_unchanged = ap length c.clear.ensures ∙ length-replicate _ _;
+      work_len_unchanged = ap length c.clear-2.ensures ∙ length-replicate _ _;
     }

@@ -54,7 +54,7 @@ shape_of-table c = c.loop-t.invariant.0
 
 pub returns : goal.returns
 returns c =
-    record
-    { filled = λ g n h e. adding-ends g _ _ _ h n _ _ _ (c.loop-t.invariant.1 g n h e) c.loop-t-test.false
-    ; table_len_unchanged = c.loop-t.invariant.0
+    record {
+      filled = λ g n h e. adding-ends g _ _ _ h n _ _ _ (c.loop-t.invariant.1 g n h e) c.loop-t-test.false;
+      table_len_unchanged = c.loop-t.invariant.0;
     }

@@ -26,7 +26,7 @@ loop-rest-preserved c = uniting-on _ _ _ _ _ (omega (arith, c.loop-rest-test.tru
 
 pub returns : goal.returns
 returns c =
-    record
-    { upper_bound = c.loop-rest.invariant.small
-    ; upper_bound_2 = uniting-ends _ _ _ _ c.loop-rest-test.false c.loop-rest.invariant
+    record {
+      upper_bound = c.loop-rest.invariant.small;
+      upper_bound_2 = uniting-ends _ _ _ _ c.loop-rest-test.false c.loop-rest.invariant;
     }

@@ -37,13 +37,14 @@ loop-rest-smaller c = cleared-falls _ (omega (arith, c.loop-rest-test.true))
 
 pub loop-rest-preserved : goal.loop-rest-preserved
 loop-rest-preserved c =
-    elim c.if-count-lt10.branch
-    [ then-count-lt10 w ↦ naming-first _ _ _ (omega (arith, c.loop-rest-test.true)) c.lowest_state-s.ensures _ _ _ c.loop-rest.invariant _ _ w.if-count-lt10.true w.states-is w.numbers-is
-    | else-count-lt10 w ↦ naming-later _ _ _ (omega (arith, c.loop-rest-test.true)) c.lowest_state-s.ensures _ _ _ c.loop-rest.invariant _ _ w.if-count-lt10.false w.states-is w.numbers-is ]
+    elim c.if-count-lt10.branch [
+      | then-count-lt10 w ↦ naming-first _ _ _ (omega (arith, c.loop-rest-test.true)) c.lowest_state-s.ensures _ _ _ c.loop-rest.invariant _ _ w.if-count-lt10.true w.states-is w.numbers-is
+      | else-count-lt10 w ↦ naming-later _ _ _ (omega (arith, c.loop-rest-test.true)) c.lowest_state-s.ensures _ _ _ c.loop-rest.invariant _ _ w.if-count-lt10.false w.states-is w.numbers-is
+    ]
 
 pub returns : goal.returns
 returns c =
-    record
-    { named = naming-ends _ _ _ _ _ c.loop-rest-test.false c.loop-rest.invariant
-    ; by_index = c.loop-rest.invariant.few
+    record {
+      named = naming-ends _ _ _ _ _ c.loop-rest-test.false c.loop-rest.invariant;
+      by_index = c.loop-rest.invariant.few;
     }

@@ -73,12 +73,12 @@ shape_of-hints c = c.loop-j.invariant.hinting
 
 pub returns : goal.returns
 returns c =
-    record
-    { by_index = running-ends _ _ _ _ _ _ _ _ _ _ _ _ _ _ _ _ _ _ _ _ _ _ _ c.loop-j-test.false c.loop-j.invariant
-    ; upper_bound = c.loop-j.invariant.room
-    ; more_len_unchanged = c.loop-j.invariant.mores
-    ; all_len_unchanged = c.loop-j.invariant.areas
-    ; keys_len_unchanged = c.loop-j.invariant.keyed
-    ; rests_len_unchanged = c.loop-j.invariant.resting
-    ; hints_len_unchanged = c.loop-j.invariant.hinting
+    record {
+      by_index = running-ends _ _ _ _ _ _ _ _ _ _ _ _ _ _ _ _ _ _ _ _ _ _ _ c.loop-j-test.false c.loop-j.invariant;
+      upper_bound = c.loop-j.invariant.room;
+      more_len_unchanged = c.loop-j.invariant.mores;
+      all_len_unchanged = c.loop-j.invariant.areas;
+      keys_len_unchanged = c.loop-j.invariant.keyed;
+      rests_len_unchanged = c.loop-j.invariant.resting;
+      hints_len_unchanged = c.loop-j.invariant.hinting;
     }

@@ -50,12 +50,12 @@ shape_of-hints c = c.loop-rest.invariant.hinting
 
 pub returns : goal.returns
 returns c =
-    record
-    { by_index = wording-ends _ _ _ _ _ _ _ _ _ _ _ _ _ _ _ _ _ _ _ _ _ c.loop-rest-test.false c.loop-rest.invariant
-    ; upper_bound = c.loop-rest.invariant.room
-    ; more_len_unchanged = c.loop-rest.invariant.mores
-    ; all_len_unchanged = c.loop-rest.invariant.areas
-    ; keys_len_unchanged = c.loop-rest.invariant.keyed
-    ; rests_len_unchanged = c.loop-rest.invariant.resting
-    ; hints_len_unchanged = c.loop-rest.invariant.hinting
+    record {
+      by_index = wording-ends _ _ _ _ _ _ _ _ _ _ _ _ _ _ _ _ _ _ _ _ _ c.loop-rest-test.false c.loop-rest.invariant;
+      upper_bound = c.loop-rest.invariant.room;
+      more_len_unchanged = c.loop-rest.invariant.mores;
+      all_len_unchanged = c.loop-rest.invariant.areas;
+      keys_len_unchanged = c.loop-rest.invariant.keyed;
+      rests_len_unchanged = c.loop-rest.invariant.resting;
+      hints_len_unchanged = c.loop-rest.invariant.hinting;
     }

@@ -13,13 +13,13 @@ overflow_add-result c = omega (arith, c.requires.0.few, c.requires.0.most, c.req
 
 pub returns-then-is_line : goal.returns-then-is_line
 returns-then-is_line c =
-    record
-    { finding = λ el g es z ra lt lc ls ly lz added pool named. (pool, of-line _ (c.is_line.ensures c.if-is_line.true).0 refl (c.is_line.ensures c.if-is_line.true).1)
-    ; family_bound = (omega (arith, (c.is_line.ensures c.if-is_line.true).0), omega arith)
-    ; all_len_unchanged = refl
-    ; keys_len_unchanged = refl
-    ; rests_len_unchanged = refl
-    ; hints_len_unchanged = refl
+    record {
+      finding = λ el g es z ra lt lc ls ly lz added pool named. (pool, of-line _ (c.is_line.ensures c.if-is_line.true).0 refl (c.is_line.ensures c.if-is_line.true).1);
+      family_bound = (omega (arith, (c.is_line.ensures c.if-is_line.true).0), omega arith);
+      all_len_unchanged = refl;
+      keys_len_unchanged = refl;
+      rests_len_unchanged = refl;
+      hints_len_unchanged = refl;
     }
 
 pub overflow_mul-family : goal.overflow_mul-family
@@ -66,11 +66,11 @@ overflow_add-result-3 c = (let most = c.requires.0.most in omega (arith, most, c
 
 pub returns : goal.returns
 returns c =
-    record
-    { finding = made _ _ _ _ _ _ _ _ _ _ _ _ _ c.key_of.result c.head_of.result _ _ c.requires.5 c.requires.0.same c.key_of.ensures c.head_of.ensures c.unite_pair.ensures.unites_into c.copy_at.ensures.copied
-    ; family_bound = (omega arith, le_refl _)
-    ; all_len_unchanged = c.copy_at.ensures.words_len_unchanged
-    ; keys_len_unchanged = simp length-set
-    ; rests_len_unchanged = simp length-set
-    ; hints_len_unchanged = simp length-set
+    record {
+      finding = made _ _ _ _ _ _ _ _ _ _ _ _ _ c.key_of.result c.head_of.result _ _ c.requires.5 c.requires.0.same c.key_of.ensures c.head_of.ensures c.unite_pair.ensures.unites_into c.copy_at.ensures.copied;
+      family_bound = (omega arith, le_refl _);
+      all_len_unchanged = c.copy_at.ensures.words_len_unchanged;
+      keys_len_unchanged = simp length-set;
+      rests_len_unchanged = simp length-set;
+      hints_len_unchanged = simp length-set;
     }

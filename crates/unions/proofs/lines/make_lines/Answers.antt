@@ -58,11 +58,11 @@ shape_of-hints c = c.loop-rest.invariant.hinting
 
 pub returns : goal.returns
 returns c =
-    record
-    { finds = made-last _ _ _ _ _ _ _ _ _ _ _ _ _ _ _ _ _ _ _ c.loop-rest-test.false c.loop-rest.invariant
-    ; family_bound = (c.loop-rest.invariant.placed, omega (arith, c.loop-rest.invariant.room))
-    ; all_len_unchanged = c.loop-rest.invariant.areas
-    ; keys_len_unchanged = c.loop-rest.invariant.keyed
-    ; rests_len_unchanged = c.loop-rest.invariant.resting
-    ; hints_len_unchanged = c.loop-rest.invariant.hinting
+    record {
+      finds = made-last _ _ _ _ _ _ _ _ _ _ _ _ _ _ _ _ _ _ _ c.loop-rest-test.false c.loop-rest.invariant;
+      family_bound = (c.loop-rest.invariant.placed, omega (arith, c.loop-rest.invariant.room));
+      all_len_unchanged = c.loop-rest.invariant.areas;
+      keys_len_unchanged = c.loop-rest.invariant.keyed;
+      rests_len_unchanged = c.loop-rest.invariant.resting;
+      hints_len_unchanged = c.loop-rest.invariant.hinting;
     }

@@ -11,18 +11,18 @@ overflow_mul-to c = (let few = c.requires.0.few in let most = c.requires.0.most 
 
 pub returns-then-letters-c : goal.returns-then-letters-c
 returns-then-letters-c c =
-    record
-    { by_index = (λ el g old es count ra lt lk r p. absurd (letter-fails _ _ _ _ _ _ _ _ _ _ _ _ _ lk lt r _ c.line_at-key.ensures.0 c.if-letters-c.true))
-    ; all_len_unchanged = refl
-    ; len_unchanged = refl
+    record {
+      by_index = (λ el g old es count ra lt lk r p. absurd (letter-fails _ _ _ _ _ _ _ _ _ _ _ _ _ lk lt r _ c.line_at-key.ensures.0 c.if-letters-c.true));
+      all_len_unchanged = refl;
+      len_unchanged = refl;
     }
 
 pub returns-then-heads-k : goal.returns-then-heads-k
 returns-then-heads-k c =
-    record
-    { by_index = (λ el g old es count ra lt lk r p. absurd (rest-fails _ _ _ _ _ _ _ _ _ _ _ _ _ lk lt r _ c.line_at-key.ensures.0 _ c.line_at-rest.ensures.0 c.if-heads-k.true))
-    ; all_len_unchanged = refl
-    ; len_unchanged = refl
+    record {
+      by_index = (λ el g old es count ra lt lk r p. absurd (rest-fails _ _ _ _ _ _ _ _ _ _ _ _ _ lk lt r _ c.line_at-key.ensures.0 _ c.line_at-rest.ensures.0 c.if-heads-k.true));
+      all_len_unchanged = refl;
+      len_unchanged = refl;
     }
 
 pub clear_at-requires : goal.clear_at-requires
@@ -30,10 +30,10 @@ clear_at-requires c = new-area _ _ _ _ _ _ _ _ _ c.requires.0 (c.args.heads + c.
 
 pub returns-then-x-fresh-eq0 : goal.returns-then-x-fresh-eq0
 returns-then-x-fresh-eq0 c =
-    record
-    { by_index = (λ el g old es count ra lt lk r p. renewed-none _ _ _ _ _ _ _ _ _ _ _ _ _ lk lt r _ c.line_at-key.ensures.0 _ _ p _ c.if-x-fresh-eq0.true c.clear_at.ensures.cleared)
-    ; all_len_unchanged = refl
-    ; len_unchanged = c.clear_at.ensures.words_len_unchanged
+    record {
+      by_index = (λ el g old es count ra lt lk r p. renewed-none _ _ _ _ _ _ _ _ _ _ _ _ _ lk lt r _ c.line_at-key.ensures.0 _ _ p _ c.if-x-fresh-eq0.true c.clear_at.ensures.cleared);
+      all_len_unchanged = refl;
+      len_unchanged = c.clear_at.ensures.words_len_unchanged;
     }
 
 pub lowest-requires : goal.lowest-requires
@@ -62,8 +62,8 @@ take_in-requires c = (old-area _ _ _ _ _ _ _ _ _ c.requires.0 (c.args.heads + c.
 
 pub returns : goal.returns
 returns c =
-    record
-    { by_index = (λ el g old es count ra lt lk r p. renewed _ _ _ _ _ _ _ _ _ _ _ _ _ lk lt r _ c.line_at-key.ensures.0 _ _ p _ _ _ _ _ _ _ c.lowest.ensures c.head_of-head.ensures c.line_at-rest.ensures.0 (c.unite_into.ensures.unites_into ra) (c.unite_into-2.ensures.unites_into ra) c.take_in.ensures.taken_in)
-    ; all_len_unchanged = c.take_in.ensures.all_len_unchanged
-    ; len_unchanged = c.take_in.ensures.len_unchanged
+    record {
+      by_index = (λ el g old es count ra lt lk r p. renewed _ _ _ _ _ _ _ _ _ _ _ _ _ lk lt r _ c.line_at-key.ensures.0 _ _ p _ _ _ _ _ _ _ c.lowest.ensures c.head_of-head.ensures c.line_at-rest.ensures.0 (c.unite_into.ensures.unites_into ra) (c.unite_into-2.ensures.unites_into ra) c.take_in.ensures.taken_in);
+      all_len_unchanged = c.take_in.ensures.all_len_unchanged;
+      len_unchanged = c.take_in.ensures.len_unchanged;
     }

@@ -26,8 +26,8 @@ shape_of-new c = c.loop-k.invariant.news
 
 pub returns : goal.returns
 returns c =
-    record
-    { by_index = renewed-last c.loop-k.invariant c.loop-k-test.false
-    ; all_len_unchanged = c.loop-k.invariant.areas
-    ; len_unchanged = c.loop-k.invariant.news
+    record {
+      by_index = renewed-last c.loop-k.invariant c.loop-k-test.false;
+      all_len_unchanged = c.loop-k.invariant.areas;
+      len_unchanged = c.loop-k.invariant.news;
     }
