@@ -1,11 +1,12 @@
-// Question 13: the check of a whole table, in one pass.
-ghost use Rattle.std.specs.Prelude.{◌≡◌, not, ◌&&◌, ℕ, ◌-◌, ◌*◌, ◌≤◌, length};
-ghost use Rattle.game.specs.Limits.{max_states, max_rules};
+// Question 13: the check of a whole table, or of a part of it, in one pass.
+ghost use Rattle.std.specs.Prelude.{◌≡◌, not, ◌&&◌, ℕ, ◌+◌, ◌-◌, ◌*◌, ◌/◌, ◌≤◌, length};
+ghost use Rattle.game.specs.Limits.{max_states, max_rules, max_entries};
 ghost use Rattle.game.specs.Game.{PushdownGame};
 ghost use Rattle.game.specs.Held.{Held, Safe};
 ghost use Rattle.game.specs.declared.game.Sizes.{Sizes};
 ghost use Rattle.game.specs.Outcome.{said};
 ghost use Rattle.table.specs.Table.{
+  entry_stride,
   length_in_form,
   entry_of,
   is_eloise,
@@ -15,6 +16,7 @@ ghost use Rattle.table.specs.Table.{
   entry_in_form,
   follows,
   passes,
+  form_from,
   table_form,
 };
 
@@ -43,6 +45,35 @@ pub fn table_form(sizes: Sizes, rules: &[u8], words: &[u32]) -> Answer
             };
         }
         before = entry;
+        i += 1;
+    }
+    Answer::Done
+}
+
+// 13 of a part of a table, in one pass: the entries from index `first` on, `before` being the one before them. At index 0 there is
+// none, and `before` is not looked at.
+pub fn entries_form(
+    sizes: Sizes,
+    rules: &[u8],
+    first: usize,
+    before: EntryWords,
+    words: &[u32],
+) -> Answer
+    requires { Safe sizes rules.now × (first + length words.now / entry_stride ≤ max_entries) }
+    ensures { (g : PushdownGame) → Held g sizes rules.now
+        → said result ≡ form_from g first before.first before.set before.rule words.now }
+{
+    let mut last = before;
+    let mut i = 0;
+    while i < words.len() / EntryWords::STRIDE {
+        let entry = EntryWords::at(words, i);
+        if !does_pass(sizes, rules, first + i, last, entry) {
+            return Answer::Refused {
+                question: 13,
+                place: first + i,
+            };
+        }
+        last = entry;
         i += 1;
     }
     Answer::Done

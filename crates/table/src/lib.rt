@@ -8,6 +8,6 @@ mod check;
 mod entry;
 mod search;
 
-pub use check::{is_length, is_rule_numbered, table_form};
+pub use check::{entries_form, is_length, is_rule_numbered, table_form};
 pub use entry::EntryWords;
 pub use search::{end_of, place_of, start_of, used_part};
