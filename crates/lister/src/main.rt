@@ -5,55 +5,64 @@
 #![tactic(auto)]
 
 use game::Game;
-use libc::STDIN_FILENO;
-use output::{Line, front, refusal};
+use output::{Line, front, read_full, refusal};
 use solver::{Solution, solve};
+use std::io;
+use std::io::Read;
 use table::EntryWords;
 
 // One byte more than a file may have is enough to know that it is too long, so no more is read.
-fn main() {
+fn main(rt: HostRuntime) -> io::Result<()> {
     let mut file = [0u8; Game::MAX_FILE + 1];
     let mut table = [0u32; EntryWords::STRIDE * Game::MAX_ENTRIES];
     let mut work = [0u32; EntryWords::STRIDE * Game::MAX_ENTRIES];
-    list(&mut file, &mut table, &mut work);
+    let mut input = rt.stdin();
+    list(&mut input, &rt, &mut file, &mut table, &mut work)
 }
 
 // Reads the file into the first buffer and lists its entries.
-fn list(file: &mut [u8], table: &mut [u32], work: &mut [u32]) {
-    let n = io::read_full(STDIN_FILENO, file);
+fn list(
+    input: &mut impl Read,
+    out: &impl Print,
+    file: &mut [u8],
+    table: &mut [u32],
+    work: &mut [u32],
+) -> io::Result<()> {
+    let n = read_full(input, file)?;
     let solution = solve(front(file, n), table, work);
     match solution {
         Solution::Solved { entries, rounds } => {
-            print_heading(rounds, entries);
-            print_entries(table);
+            print_heading(out, rounds, entries)?;
+            print_entries(out, table)
         }
-        Solution::Refused { question, place } => refusal(question, place).print(),
+        Solution::Refused { question, place } => refusal(question, place).print(out),
     }
 }
 
-fn print_heading(rounds: u32, entries: usize) {
+fn print_heading(out: &impl Print, rounds: u32, entries: usize) -> io::Result<()> {
     Line::new()
         .word(b"rounds ")
         .number(rounds as u64)
         .word(b" entries ")
         .number(entries as u64)
-        .print();
+        .print(out)
 }
 
 // The entries of a table, up to the first unused one.
-fn print_entries(table: &[u32]) {
+fn print_entries(out: &impl Print, table: &[u32]) -> io::Result<()> {
     let mut i = 0;
     while i < table.len() / EntryWords::STRIDE {
         let entry = EntryWords::at(table, i);
         if entry.is_unused() {
-            return;
+            return Ok(());
         }
-        print_entry(entry);
+        print_entry(out, entry)?;
         i += 1;
     }
+    Ok(())
 }
 
-fn print_entry(entry: EntryWords) {
+fn print_entry(out: &impl Print, entry: EntryWords) -> io::Result<()> {
     let line = Line::new()
         .number(entry.state() as u64)
         .byte(b' ')
@@ -63,7 +72,7 @@ fn print_entry(entry: EntryWords) {
         .byte(b' ')
         .number(entry.birthdate() as u64)
         .byte(b' ');
-    with_rule(line, entry.rule).print();
+    with_rule(line, entry.rule).print(out)
 }
 
 // The line with the rule number that a rule field stands for, or "-" where it is 0.

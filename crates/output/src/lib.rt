@@ -1,10 +1,14 @@
-// Lines of output: words and numbers gathered in a buffer and written at once.
+// Lines of output: words and numbers gathered in a buffer and written at once. And input, read into a buffer.
 //
-// A line has room for 120 bytes, and what does not fit is left out: no line of the programs here is that long. It leaves
-// out what becomes of a write that fails, of which the caller hears nothing.
+// A line has room for 120 bytes, and what does not fit is left out: no line of the programs here is that long.
 #![tactic(auto)]
 
-use libc::STDOUT_FILENO;
+ghost use Rattle.std.specs.Prelude.{◌≤◌, length, IfOk};
+
+use std::fmt;
+use std::fmt::Write;
+use std::io;
+use std::io::Read;
 
 // What was gathered so far, and how many bytes that is.
 #[derive(Clone, Copy)]
@@ -49,16 +53,25 @@ impl Line {
 
     // The line with a number after it, in decimal.
     pub fn number(self, n: u64) -> Line {
-        let mut digits = [0u8; 20];
-        let k = io::decimal(n, &mut digits);
-        self.word(&digits[..k])
+        let mut line = self;
+        // No line refuses text.
+        let _ = write!(line, "{n}");
+        line
     }
 
-    // Writes the line, with its end, to standard output.
-    pub fn print(self) {
+    // Writes the line, with its end.
+    pub fn print(self, out: &impl Print) -> io::Result<()> {
         let whole = self.byte(b'\n');
         let bytes = whole.bytes;
-        io::write_all(STDOUT_FILENO, front(&bytes, whole.size));
+        out.write_all(front(&bytes, whole.size))
+    }
+}
+
+// Text is put after what the line has, as `word` puts it.
+impl Write for Line {
+    fn write_str(&mut self, s: &str) -> fmt::Result {
+        *self = self.word(s.as_bytes());
+        Ok(())
     }
 }
 
@@ -77,4 +90,19 @@ pub fn front(bytes: &[u8], n: usize) -> &[u8] {
         return bytes;
     }
     &bytes[..n]
+}
+
+// Reads until the buffer is full or the input ends, and answers how many bytes it put at the buffer's start.
+pub fn read_full(input: &mut impl Read, buffer: &mut [u8]) -> io::Result<usize>
+    ensures { IfOk result (λ n. n ≤ length buffer.new) }
+{
+    let mut done = 0;
+    while done < buffer.len() {
+        let n = input.read(&mut buffer[done..])?;
+        if n == 0 {
+            break;
+        }
+        done += n;
+    }
+    Ok(done)
 }

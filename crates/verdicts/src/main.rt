@@ -3,15 +3,16 @@
 // to a lost position if there is one, `target`, `eloise` with rule and bound, `abelard` with bound, or the refusal line. A game that
 // is refused, or not solved, prints its one line and ends the run; a refused position does not.
 //
-// A piece cut short is taken as the bytes that came, and without both length bytes the run ends. A read that fails counts
-// as the end of the input. It leaves out playing.
+// A piece cut short is taken as the bytes that came, and without both length bytes the run ends. A read or a write that fails
+// ends the run with its error. It leaves out playing.
 #![tactic(auto)]
 
 use game::Game;
 use judge::{Verdict, judge};
-use libc::STDIN_FILENO;
-use output::{Line, front, refusal};
+use output::{Line, front, read_full, refusal};
 use solver::{Solution, solve};
+use std::io;
+use std::io::Read;
 use table::EntryWords;
 
 // What reading a piece answers: how many bytes of it came, or that the input ended before it.
@@ -28,51 +29,68 @@ const LONGEST: usize = 65535;
 // More positions than any input has.
 const MOST: u64 = 18446744073709551615;
 
-fn main() {
+fn main(rt: HostRuntime) -> io::Result<()> {
     let mut file = [0u8; LONGEST];
     let mut position = [0u8; LONGEST];
     let mut table = [0u32; EntryWords::STRIDE * Game::MAX_ENTRIES];
     let mut work = [0u32; EntryWords::STRIDE * Game::MAX_ENTRIES];
-    run(&mut file, &mut position, &mut table, &mut work);
+    let mut input = rt.stdin();
+    run(&mut input, &rt, &mut file, &mut position, &mut table, &mut work)
 }
 
 // The game, and then its positions. The pieces are read into the first two buffers.
-fn run(file: &mut [u8], position: &mut [u8], table: &mut [u32], work: &mut [u32]) {
-    let piece = read_piece(file);
+fn run(
+    input: &mut impl Read,
+    out: &impl Print,
+    file: &mut [u8],
+    position: &mut [u8],
+    table: &mut [u32],
+    work: &mut [u32],
+) -> io::Result<()> {
+    let piece = read_piece(input, file)?;
     let Piece::Bytes(n) = piece else {
-        return;
+        return Ok(());
     };
     let solution = solve(front(file, n), table, work);
     match solution {
-        Solution::Solved { entries, rounds } => judge_all(front(file, n), position, table),
-        Solution::Refused { question, place } => refusal(question, place).print(),
+        Solution::Solved { entries, rounds } => {
+            judge_all(input, out, front(file, n), position, table)
+        }
+        Solution::Refused { question, place } => refusal(question, place).print(out),
     }
 }
 
 // A verdict for each position that is left in the input.
-fn judge_all(file: &[u8], position: &mut [u8], table: &[u32]) {
+fn judge_all(
+    input: &mut impl Read,
+    out: &impl Print,
+    file: &[u8],
+    position: &mut [u8],
+    table: &[u32],
+) -> io::Result<()> {
     let mut left = MOST;
     while left > 0 {
-        let piece = read_piece(position);
+        let piece = read_piece(input, position)?;
         let Piece::Bytes(n) = piece else {
-            return;
+            return Ok(());
         };
-        print_verdict(judge(file, table, front(position, n)));
+        print_verdict(out, judge(file, table, front(position, n)))?;
         left -= 1;
     }
+    Ok(())
 }
 
 // Reads the next piece into a buffer.
-fn read_piece(buffer: &mut [u8]) -> Piece {
+fn read_piece(input: &mut impl Read, buffer: &mut [u8]) -> io::Result<Piece> {
     let mut announced = [0u8; 2];
-    if io::read_full(STDIN_FILENO, &mut announced) < 2 {
-        return Piece::Ended;
+    if read_full(input, &mut announced)? < 2 {
+        return Ok(Piece::Ended);
     }
     let n = number_of(announced[0], announced[1]);
     if buffer.len() < n {
-        return Piece::Ended;
+        return Ok(Piece::Ended);
     }
-    Piece::Bytes(io::read_full(STDIN_FILENO, &mut buffer[..n]))
+    Ok(Piece::Bytes(read_full(input, &mut buffer[..n])?))
 }
 
 // The number that two length bytes stand for.
@@ -80,13 +98,13 @@ fn number_of(low: u8, high: u8) -> usize {
     low as usize + 256 * (high as usize)
 }
 
-fn print_verdict(verdict: Verdict) {
+fn print_verdict(out: &impl Print, verdict: Verdict) -> io::Result<()> {
     match verdict {
-        Verdict::Lost { rule } => lost(rule).print(),
-        Verdict::Target => Line::new().word(b"target").print(),
-        Verdict::Eloise { rule, bound } => print_eloise(rule, bound),
-        Verdict::Abelard { bound } => Line::new().word(b"abelard ").number(bound).print(),
-        Verdict::Refused { question, place } => refusal(question, place).print(),
+        Verdict::Lost { rule } => lost(rule).print(out),
+        Verdict::Target => Line::new().word(b"target").print(out),
+        Verdict::Eloise { rule, bound } => print_eloise(out, rule, bound),
+        Verdict::Abelard { bound } => Line::new().word(b"abelard ").number(bound).print(out),
+        Verdict::Refused { question, place } => refusal(question, place).print(out),
     }
 }
 
@@ -98,11 +116,11 @@ fn lost(rule: u32) -> Line {
     Line::new().word(b"lost ").number((rule - 1) as u64)
 }
 
-fn print_eloise(rule: u32, bound: u64) {
+fn print_eloise(out: &impl Print, rule: u32, bound: u64) -> io::Result<()> {
     Line::new()
         .word(b"eloise ")
         .number(rule as u64)
         .byte(b' ')
         .number(bound)
-        .print();
+        .print(out)
 }
