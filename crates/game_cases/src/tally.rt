@@ -1,22 +1,26 @@
 // The tally: how many cases were tried and how many failed. A case that fails prints one line, which starts with its number
-// and the script's line that it is on.
+// and the script's line that it is on. What cannot be written of such a line is left out, and the last line tells how many
+// there are: where that cannot be written, the run ends with its error.
 use game::Answer;
-use libc::STDOUT_FILENO;
 use script::{up, wide};
+use std::io;
+use std::io::Stdout;
 
 #[derive(Clone, Copy)]
 pub struct Tally {
     pub tried: usize,
     pub failed: usize,
     pub line: usize,
+    pub out: Stdout,
 }
 
 impl Tally {
-    pub fn none() -> Tally {
+    pub fn none(out: Stdout) -> Tally {
         Tally {
             tried: 0,
             failed: 0,
             line: 0,
+            out,
         }
     }
 
@@ -25,6 +29,7 @@ impl Tally {
             tried: self.tried,
             failed: self.failed,
             line,
+            out: self.out,
         }
     }
 
@@ -34,10 +39,10 @@ impl Tally {
             return self.held();
         }
         let t = self.failing();
-        print(expected);
-        io::write_all(STDOUT_FILENO, b", got ");
-        print(got);
-        io::write_all(STDOUT_FILENO, b"\n");
+        self.put_number(expected);
+        self.put(b", got ");
+        self.put_number(got);
+        self.put(b"\n");
         t
     }
 
@@ -47,7 +52,7 @@ impl Tally {
             return self.held();
         }
         let t = self.failing();
-        io::write_all(STDOUT_FILENO, b"yes, got no\n");
+        self.put(b"yes, got no\n");
         t
     }
 
@@ -57,26 +62,26 @@ impl Tally {
             return self.held();
         }
         let t = self.failing();
-        print_answer(question, place);
-        io::write_all(STDOUT_FILENO, b", got ");
+        self.put_answer(question, place);
+        self.put(b", got ");
         match answer {
-            Answer::Done => print_answer(0, 0),
+            Answer::Done => self.put_answer(0, 0),
             Answer::Refused {
                 question: q,
                 place: p,
-            } => print_answer(q, p),
+            } => self.put_answer(q, p),
         }
-        io::write_all(STDOUT_FILENO, b"\n");
+        self.put(b"\n");
         t
     }
 
     // The last line.
-    pub fn print(self) {
-        io::write_all(STDOUT_FILENO, b"game cases: ");
-        print(self.tried);
-        io::write_all(STDOUT_FILENO, b" tried, ");
-        print(self.failed);
-        io::write_all(STDOUT_FILENO, b" failed\n");
+    pub fn print(self) -> io::Result<()> {
+        self.out.write_all(b"game cases: ")?;
+        self.out.print(self.tried)?;
+        self.out.write_all(b" tried, ")?;
+        self.out.print(self.failed)?;
+        self.out.write_all(b" failed\n")
     }
 
     // One case more, which holds.
@@ -85,22 +90,44 @@ impl Tally {
             tried: up(self.tried),
             failed: self.failed,
             line: self.line,
+            out: self.out,
         }
     }
 
     // One case more, which fails: the start of its line.
     fn failing(self) -> Tally {
         let tried = up(self.tried);
-        io::write_all(STDOUT_FILENO, b"case ");
-        print(tried);
-        io::write_all(STDOUT_FILENO, b", line ");
-        print(self.line);
-        io::write_all(STDOUT_FILENO, b": expected ");
+        self.put(b"case ");
+        self.put_number(tried);
+        self.put(b", line ");
+        self.put_number(self.line);
+        self.put(b": expected ");
         Tally {
             tried,
             failed: up(self.failed),
             line: self.line,
+            out: self.out,
         }
+    }
+
+    // Parts of the line of a case that fails.
+    fn put_answer(self, question: u8, place: usize) {
+        if question == 0 {
+            self.put(b"done");
+            return;
+        }
+        self.put(b"refused ");
+        self.put_number(wide(question));
+        self.put(b" at ");
+        self.put_number(place);
+    }
+
+    fn put(self, text: &[u8]) {
+        let _ = self.out.write_all(text);
+    }
+
+    fn put_number(self, n: usize) {
+        let _ = self.out.print(n);
     }
 }
 
@@ -117,19 +144,4 @@ fn is_answer(answer: Answer, question: u8, place: usize) -> bool {
             p == place
         }
     }
-}
-
-fn print_answer(question: u8, place: usize) {
-    if question == 0 {
-        io::write_all(STDOUT_FILENO, b"done");
-        return;
-    }
-    io::write_all(STDOUT_FILENO, b"refused ");
-    print(wide(question));
-    io::write_all(STDOUT_FILENO, b" at ");
-    print(place);
-}
-
-fn print(n: usize) {
-    io::print_decimal(STDOUT_FILENO, n as u64);
 }

@@ -37,6 +37,7 @@ use script::{
     Numbers, after_word, byte_of, front, line_of, numbers_at, put, put_d, put_times, up, value_at,
     word_at,
 };
+use std::io::Stdout;
 
 // Where the script is, how long the file is, and the tally.
 #[derive(Clone, Copy)]
@@ -47,11 +48,11 @@ pub struct State {
 }
 
 // All words of a script. Each takes up at least one byte.
-pub fn run(script: &[u8], file: &mut [u8]) -> Tally {
+pub fn run(out: Stdout, script: &[u8], file: &mut [u8]) -> Tally {
     let mut s = State {
         at: 0,
         length: 0,
-        tally: Tally::none(),
+        tally: Tally::none(out),
     };
     let mut left = script.len();
     while left > 0 {

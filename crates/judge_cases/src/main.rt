@@ -12,19 +12,36 @@ mod words;
 
 use crate::tally::Tally;
 use crate::words::run;
-use libc::STDIN_FILENO;
+use output::read_full;
+use std::io;
+use std::io::{Read, Stdout};
 
-fn main() {
+fn main(rt: HostRuntime) -> io::Result<()> {
     let mut script = [0u8; 65536];
     let mut file = [0u8; 4098];
     let mut table = [0u32; 6150];
     let mut position = [0u8; 300];
-    let t = every_case(&mut script, &mut file, &mut table, &mut position);
-    t.print();
+    let mut input = rt.stdin();
+    let t = every_case(
+        &mut input,
+        rt.stdout(),
+        &mut script,
+        &mut file,
+        &mut table,
+        &mut position,
+    )?;
+    t.print()
 }
 
 // The cases of the script that is read into the first buffer, with files, tables and positions built in the others.
-fn every_case(script: &mut [u8], file: &mut [u8], table: &mut [u32], position: &mut [u8]) -> Tally {
-    let n = io::read_full(STDIN_FILENO, script);
-    run(&script[..n], file, table, position)
+fn every_case(
+    input: &mut impl Read,
+    out: Stdout,
+    script: &mut [u8],
+    file: &mut [u8],
+    table: &mut [u32],
+    position: &mut [u8],
+) -> io::Result<Tally> {
+    let n = read_full(input, script)?;
+    Ok(run(out, &script[..n], file, table, position))
 }

@@ -1,6 +1,7 @@
 // A verdict as numbers, so that two can be compared and printed.
 use judge::Verdict;
-use libc::STDOUT_FILENO;
+use std::io;
+use std::io::Stdout;
 
 // The kind, and two numbers whose meaning it gives.
 #[derive(Clone, Copy)]
@@ -52,29 +53,22 @@ impl Told {
         self.second == other.second
     }
 
-    pub fn print(self) {
-        print_kind(self.kind);
-        io::write_all(STDOUT_FILENO, b" ");
-        io::print_decimal(STDOUT_FILENO, self.first);
-        io::write_all(STDOUT_FILENO, b" ");
-        io::print_decimal(STDOUT_FILENO, self.second);
+    pub fn print(self, out: Stdout) -> io::Result<()> {
+        print_kind(out, self.kind)?;
+        out.write_all(b" ")?;
+        out.print(self.first)?;
+        out.write_all(b" ")?;
+        out.print(self.second)
     }
 }
 
-fn print_kind(kind: u8) {
-    if kind == Told::LOST {
-        io::write_all(STDOUT_FILENO, b"lost");
-    }
-    if kind == Told::TARGET {
-        io::write_all(STDOUT_FILENO, b"target");
-    }
-    if kind == Told::ELOISE {
-        io::write_all(STDOUT_FILENO, b"eloise");
-    }
-    if kind == Told::ABELARD {
-        io::write_all(STDOUT_FILENO, b"abelard");
-    }
-    if kind == Told::REFUSED {
-        io::write_all(STDOUT_FILENO, b"refused");
+fn print_kind(out: Stdout, kind: u8) -> io::Result<()> {
+    match kind {
+        Told::LOST => out.write_all(b"lost"),
+        Told::TARGET => out.write_all(b"target"),
+        Told::ELOISE => out.write_all(b"eloise"),
+        Told::ABELARD => out.write_all(b"abelard"),
+        Told::REFUSED => out.write_all(b"refused"),
+        _ => Ok(()),
     }
 }

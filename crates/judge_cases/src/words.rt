@@ -32,6 +32,7 @@ use script::{
     Numbers, after_word, byte_of, front, line_of, numbers_at, put, put_d, put_times, value_at,
     word_at, word_of,
 };
+use std::io::Stdout;
 
 // Where the script is, how long file, table and position are, the table's offset of the next entry, and the tally.
 #[derive(Clone, Copy)]
@@ -52,14 +53,20 @@ pub struct Ends {
 }
 
 // All words of a script. Each takes up at least one byte.
-pub fn run(script: &[u8], file: &mut [u8], table: &mut [u32], position: &mut [u8]) -> Tally {
+pub fn run(
+    out: Stdout,
+    script: &[u8],
+    file: &mut [u8],
+    table: &mut [u32],
+    position: &mut [u8],
+) -> Tally {
     let mut s = State {
         at: 0,
         file: 0,
         words: 0,
         entry: 0,
         position: 0,
-        tally: Tally::none(),
+        tally: Tally::none(out),
     };
     let mut left = script.len();
     while left > 0 {
