@@ -11,6 +11,7 @@ use output::Line;
 use script::{beyond, front, front_words, lent, up, wide, word, word_of};
 use session::Session;
 use solver::solve;
+use std::io::Stdout;
 
 // A position (state, [1,0]), how many rules of its head lead to won and to lost positions, which is the worst for Éloise, and
 // its verdict.
@@ -98,21 +99,23 @@ fn code_after(i: usize, line: Line) -> Line {
 }
 
 pub fn every_case(
+    out: Stdout,
     file: &mut [u8],
     position: &mut [u8],
     table: &mut [u32],
     work: &mut [u32],
 ) -> Tally {
-    let mut t = Tally::none();
+    let mut t = Tally::none(out);
     let mut i = 0;
     while i < CASES {
-        t = t.with(case_in(i, file, position, table, work));
+        t = t.with(case_in(out, i, file, position, table, work));
         i += 1;
     }
     t
 }
 
 fn case_in(
+    out: Stdout,
     i: usize,
     file: &mut [u8],
     position: &mut [u8],
@@ -120,11 +123,12 @@ fn case_in(
     work: &mut [u32],
 ) -> Tally {
     let size = put_sample(file, sample_at(i));
-    solve_case(i, front(file, size), position, table, work)
+    solve_case(out, i, front(file, size), position, table, work)
 }
 
 // The game of a case is solved.
 fn solve_case(
+    out: Stdout,
     i: usize,
     file: &[u8],
     position: &mut [u8],
@@ -132,7 +136,7 @@ fn solve_case(
     work: &mut [u32],
 ) -> Tally {
     solve(file, lent(table, AREA), lent(work, AREA));
-    one_case(i, file, front_words(table, AREA), position)
+    one_case(out, i, file, front_words(table, AREA), position)
 }
 
 fn sample_at(i: usize) -> Sample {
@@ -140,18 +144,18 @@ fn sample_at(i: usize) -> Sample {
     case.sample
 }
 
-fn one_case(i: usize, file: &[u8], table: &[u32], position: &mut [u8]) -> Tally {
+fn one_case(out: Stdout, i: usize, file: &[u8], table: &[u32], position: &mut [u8]) -> Tally {
     let case = case_at(i);
     let s = over_bottom(case.state);
     let spread = spread_of(file, table, position, s);
     let got = judge_session(file, table, position, s);
-    compared(i, case, spread, got)
+    compared(out, i, case, spread, got)
 }
 
 // The line of a case: four tries.
-fn compared(i: usize, case: Case, spread: Spread, got: Judged) -> Tally {
+fn compared(out: Stdout, i: usize, case: Case, spread: Spread, got: Judged) -> Tally {
     let expected = case.verdict;
-    Tally::none()
+    Tally::none(out)
         .held(spread.won == case.won)
         .held(spread.lost == case.lost)
         .held(spread.worst == case.worst)

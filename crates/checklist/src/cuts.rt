@@ -13,6 +13,7 @@ use output::Line;
 use script::{byte_at, fill, front, is_zero, put, up};
 use session::play_move;
 use solver::solve;
+use std::io::Stdout;
 
 // What the areas hold before each call.
 const BEFORE: u32 = 4294967295;
@@ -20,25 +21,32 @@ const BEFORE: u32 = 4294967295;
 // A byte that is no command.
 const UNKNOWN: u8 = 254;
 
-pub fn every_file(file: &mut [u8], table: &mut [u32], work: &mut [u32]) -> Tally {
-    let mut t = Tally::none();
+pub fn every_file(out: Stdout, file: &mut [u8], table: &mut [u32], work: &mut [u32]) -> Tally {
+    let mut t = Tally::none(out);
     let mut i = 0;
     while i < FILES {
         let size = put_sample(file, file_sample(i));
-        t = t.with(one_file(i, file, size, table, work));
+        t = t.with(one_file(out, i, file, size, table, work));
         i += 1;
     }
     t
 }
 
 // Both lines of one file.
-fn one_file(i: usize, file: &mut [u8], size: usize, table: &mut [u32], work: &mut [u32]) -> Tally {
-    let t = cut_file(i, front(file, size), table, work);
-    t.with(unknown_file(i, file, size, table, work))
+fn one_file(
+    out: Stdout,
+    i: usize,
+    file: &mut [u8],
+    size: usize,
+    table: &mut [u32],
+    work: &mut [u32],
+) -> Tally {
+    let t = cut_file(out, i, front(file, size), table, work);
+    t.with(unknown_file(out, i, file, size, table, work))
 }
 
-fn cut_file(i: usize, file: &[u8], table: &mut [u32], work: &mut [u32]) -> Tally {
-    let t = every_cut(file, table, work);
+fn cut_file(out: Stdout, i: usize, file: &[u8], table: &mut [u32], work: &mut [u32]) -> Tally {
+    let t = every_cut(out, file, table, work);
     with_whole(t, i, file)
 }
 
@@ -68,13 +76,14 @@ fn within(file: &[u8]) -> usize {
 
 // Each command of a file in turn with an unknown byte in the place of its own.
 fn unknown_file(
+    out: Stdout,
     i: usize,
     file: &mut [u8],
     size: usize,
     table: &mut [u32],
     work: &mut [u32],
 ) -> Tally {
-    with_unknown(every_command(file, size, table, work), i)
+    with_unknown(every_command(out, file, size, table, work), i)
 }
 
 // The line for it.
@@ -86,8 +95,14 @@ fn with_unknown(t: Tally, i: usize) -> Tally {
     t.end(line)
 }
 
-fn every_command(file: &mut [u8], size: usize, table: &mut [u32], work: &mut [u32]) -> Tally {
-    let mut t = Tally::none();
+fn every_command(
+    out: Stdout,
+    file: &mut [u8],
+    size: usize,
+    table: &mut [u32],
+    work: &mut [u32],
+) -> Tally {
+    let mut t = Tally::none(out);
     let mut at = 0;
     while at < size {
         let bytes = command_size(byte_at(file, at));
@@ -97,7 +112,7 @@ fn every_command(file: &mut [u8], size: usize, table: &mut [u32], work: &mut [u3
         if size - at < bytes {
             return t.held(false);
         }
-        t = t.with(one_command(file, at, size, table, work));
+        t = t.with(one_command(out, file, at, size, table, work));
         at += bytes;
     }
     t
@@ -105,6 +120,7 @@ fn every_command(file: &mut [u8], size: usize, table: &mut [u32], work: &mut [u3
 
 // One command unknown. The file is as it was afterwards.
 fn one_command(
+    out: Stdout,
     file: &mut [u8],
     at: usize,
     size: usize,
@@ -113,26 +129,33 @@ fn one_command(
 ) -> Tally {
     let code = byte_at(file, at);
     put(file, at, UNKNOWN);
-    let t = unknown_at(file, at, size, table, work);
+    let t = unknown_at(out, file, at, size, table, work);
     put(file, at, code);
     t
 }
 
 // The whole file, and the file up to the unknown byte.
-fn unknown_at(file: &[u8], at: usize, size: usize, table: &mut [u32], work: &mut [u32]) -> Tally {
-    let t = refused_alike(Refusal::new(2, at), front(file, size), table, work);
-    t.with(refused_alike(Refusal::new(2, at), front(file, up(at)), table, work))
+fn unknown_at(
+    out: Stdout,
+    file: &[u8],
+    at: usize,
+    size: usize,
+    table: &mut [u32],
+    work: &mut [u32],
+) -> Tally {
+    let t = refused_alike(out, Refusal::new(2, at), front(file, size), table, work);
+    t.with(refused_alike(out, Refusal::new(2, at), front(file, up(at)), table, work))
 }
 
 fn is_read(file: &[u8]) -> bool {
     reader_on(file).is_same(Refusal::new(0, 0))
 }
 
-fn every_cut(file: &[u8], table: &mut [u32], work: &mut [u32]) -> Tally {
-    let mut t = Tally::none();
+fn every_cut(out: Stdout, file: &[u8], table: &mut [u32], work: &mut [u32]) -> Tally {
+    let mut t = Tally::none(out);
     let mut n = 0;
     while n < file.len() {
-        t = t.with(refused_alike(expected(file, n), front(file, n), table, work));
+        t = t.with(refused_alike(out, expected(file, n), front(file, n), table, work));
         n += 1;
     }
     t
@@ -170,8 +193,14 @@ fn command_size(code: u8) -> usize {
 }
 
 // A file that is refused, by all with the same question and place: five tries.
-fn refused_alike(expected: Refusal, file: &[u8], table: &mut [u32], work: &mut [u32]) -> Tally {
-    let t = same(Tally::none(), b"reader", file, expected, reader_on(file));
+fn refused_alike(
+    out: Stdout,
+    expected: Refusal,
+    file: &[u8],
+    table: &mut [u32],
+    work: &mut [u32],
+) -> Tally {
+    let t = same(Tally::none(out), b"reader", file, expected, reader_on(file));
     let t = same(t, b"move", file, expected, move_on(file));
     over_areas(t, expected, file, table, work)
 }
@@ -199,7 +228,8 @@ fn same(t: Tally, who: &[u8], file: &[u8], expected: Refusal, got: Refusal) -> T
         .word(b" on the first ")
         .number(file.len() as u64)
         .word(b" bytes: expected ");
-    got.after(expected.after(line).word(b", got ")).print();
+    let line = got.after(expected.after(line).word(b", got "));
+    let _ = line.print(&t.out);
     t.held(false)
 }
 

@@ -2,6 +2,7 @@
 //
 // It is for comparing tables by eye. It is no guard against a forged one.
 use output::Line;
+use std::fmt::Write;
 
 // The upper and the lower 32 bits.
 #[derive(Clone, Copy)]
@@ -59,7 +60,8 @@ impl Digest {
 }
 
 fn hex_after(line: Line, x: u64) -> Line {
-    let mut digits = [0u8; 16];
-    let k = io::hex(x, 8, &mut digits);
-    line.word(&digits[..k])
+    let mut line = line;
+    // No line refuses text.
+    let _ = write!(line, "{x:08x}");
+    line
 }

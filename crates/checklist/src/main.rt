@@ -22,10 +22,11 @@ use crate::plays::every_game;
 use crate::twice::every_solve;
 use game::Game;
 use output::Line;
+use std::io;
 use table::EntryWords;
 
 // Game files are built in the first buffer and positions in the second. The third area keeps the words of a table.
-fn main() {
+fn main(rt: HostRuntime) -> io::Result<()> {
     let mut file = [0u8; 400];
     let mut position = [0u8; 300];
     let mut table = [0u32; EntryWords::STRIDE * Game::MAX_ENTRIES];
@@ -35,10 +36,11 @@ fn main() {
         .word(
             b"Games A to D are the samples of document 01, D40 with 40 letters; E1 to E4 and F are made here.",
         )
-        .print();
-    let cuts = every_file(&mut file, &mut table, &mut work);
-    let twice = every_solve(&mut file, &mut table, &mut work, &mut other);
-    let branches = every_case(&mut file, &mut position, &mut table, &mut work);
-    let plays = every_game(&mut file, &mut position, &mut table, &mut work);
-    cuts.with(twice).with(branches).with(plays).total();
+        .print(&rt)?;
+    let out = rt.stdout();
+    let cuts = every_file(out, &mut file, &mut table, &mut work);
+    let twice = every_solve(out, &mut file, &mut table, &mut work, &mut other);
+    let branches = every_case(out, &mut file, &mut position, &mut table, &mut work);
+    let plays = every_game(out, &mut file, &mut position, &mut table, &mut work);
+    cuts.with(twice).with(branches).with(plays).total()
 }

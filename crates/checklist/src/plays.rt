@@ -11,6 +11,7 @@ use output::Line;
 use script::{beyond, byte_of, front, front_words, lent, up, wide};
 use session::Session;
 use solver::solve;
+use std::io::Stdout;
 
 // Of the plays of one game: positions judged won and lost, moves, Abelard's among them, and the sum of the first bounds.
 #[derive(Clone, Copy)]
@@ -75,21 +76,23 @@ fn height_at(i: usize) -> usize {
 }
 
 pub fn every_game(
+    out: Stdout,
     file: &mut [u8],
     position: &mut [u8],
     table: &mut [u32],
     work: &mut [u32],
 ) -> Tally {
-    let mut t = Tally::none();
+    let mut t = Tally::none(out);
     let mut i = 0;
     while i < GAMES {
-        t = t.with(one_game(i, file, position, table, work));
+        t = t.with(one_game(out, i, file, position, table, work));
         i += 1;
     }
     t
 }
 
 fn one_game(
+    out: Stdout,
     i: usize,
     file: &mut [u8],
     position: &mut [u8],
@@ -97,11 +100,12 @@ fn one_game(
     work: &mut [u32],
 ) -> Tally {
     let size = put_sample(file, game_at(i));
-    play_game(i, front(file, size), position, table, work)
+    play_game(out, i, front(file, size), position, table, work)
 }
 
 // The game is solved and played.
 fn play_game(
+    out: Stdout,
     i: usize,
     file: &[u8],
     position: &mut [u8],
@@ -109,7 +113,7 @@ fn play_game(
     work: &mut [u32],
 ) -> Tally {
     solve(file, lent(table, AREA), lent(work, AREA));
-    let p = every_play(file, front_words(table, AREA), position);
+    let p = every_play(out, file, front_words(table, AREA), position);
     line_of(i, p)
 }
 
@@ -144,12 +148,12 @@ fn counts_after(p: Counts, line: Line) -> Line {
 }
 
 // A play from every position of a game.
-fn every_play(file: &[u8], table: &[u32], position: &mut [u8]) -> Counts {
+fn every_play(out: Stdout, file: &[u8], table: &[u32], position: &mut [u8]) -> Counts {
     let reading = Game::read(file);
     let game = reading.game;
     let control = wide(game.control);
     let letters = wide(game.letters);
-    let mut p = no_counts();
+    let mut p = no_counts(out);
     let mut i = 0;
     while i < POSITIONS {
         p = play_at(p, i, control, letters, file, table, position);
@@ -158,9 +162,9 @@ fn every_play(file: &[u8], table: &[u32], position: &mut [u8]) -> Counts {
     p
 }
 
-fn no_counts() -> Counts {
+fn no_counts(out: Stdout) -> Counts {
     Counts {
-        tally: Tally::none(),
+        tally: Tally::none(out),
         won: 0,
         lost: 0,
         moves: 0,
@@ -227,16 +231,16 @@ fn play_from(p: Counts, s: Session, file: &[u8], table: &[u32], position: &mut [
         return next;
     }
     let one = play(s, place, file, table, position);
-    tell(s, place.bound, one);
+    tell(p.tally.out, s, place.bound, one);
     with_play(p, place.bound, one)
 }
 
-// A line for a play that fails.
-fn tell(s: Session, bound: u64, one: Played) {
+// A line for a play that fails, left out where it cannot be written.
+fn tell(out: Stdout, s: Session, bound: u64, one: Played) {
     if one.right {
         return;
     }
-    Line::new()
+    let line = Line::new()
         .word(b"state ")
         .number(wide(s.state) as u64)
         .word(b", height ")
@@ -244,8 +248,8 @@ fn tell(s: Session, bound: u64, one: Played) {
         .word(b", bound ")
         .number(bound)
         .word(b": failed after moves ")
-        .number(one.moves as u64)
-        .print();
+        .number(one.moves as u64);
+    let _ = line.print(&out);
 }
 
 fn with_play(p: Counts, bound: u64, one: Played) -> Counts {

@@ -9,6 +9,7 @@ use crate::tally::Tally;
 use output::Line;
 use script::{copy, fill, front, is_same, is_zero};
 use solver::{Solution, solve};
+use std::io::Stdout;
 
 // What solving answered: entries and rounds, or the refusal; the others are 0. And whether the work area was zero afterwards.
 #[derive(Clone, Copy)]
@@ -21,22 +22,24 @@ pub struct Solved {
 }
 
 pub fn every_solve(
+    out: Stdout,
     file: &mut [u8],
     table: &mut [u32],
     work: &mut [u32],
     other: &mut [u32],
 ) -> Tally {
-    let mut t = Tally::none();
+    let mut t = Tally::none(out);
     let mut i = 0;
     while i < FILES {
         let size = put_sample(file, file_sample(i));
-        t = t.with(one_game(i, front(file, size), table, work, other));
+        t = t.with(one_game(out, i, front(file, size), table, work, other));
         i += 1;
     }
     t
 }
 
 fn one_game(
+    out: Stdout,
     i: usize,
     file: &[u8],
     table: &mut [u32],
@@ -46,7 +49,14 @@ fn one_game(
     let first = solve_over(file, table, work, 4294967295, 1);
     copy(table, other);
     let second = solve_over(file, table, work, 65536, 2863311530);
-    compared(i, first, second, is_same(table, other), Digest::of(table))
+    compared(
+        out,
+        i,
+        first,
+        second,
+        is_same(table, other),
+        Digest::of(table),
+    )
 }
 
 // Solving, over areas that held these words everywhere.
@@ -68,11 +78,18 @@ fn solve_once(file: &[u8], table: &mut [u32], work: &mut [u32]) -> Solved {
 }
 
 // The line of one game: five tries.
-fn compared(i: usize, first: Solved, second: Solved, equal: bool, digest: Digest) -> Tally {
+fn compared(
+    out: Stdout,
+    i: usize,
+    first: Solved,
+    second: Solved,
+    equal: bool,
+    digest: Digest,
+) -> Tally {
     let line = name_after(file_sample(i), Line::new().word(b"solved twice, "));
     let line = answer_after(first, line.word(b": "));
     let line = digest.after(line.word(b", equal words, work area zero, digest "));
-    Tally::none()
+    Tally::none(out)
         .held(are_same(expected(i), first))
         .held(are_same(first, second))
         .held(equal)

@@ -2,8 +2,9 @@
 ghost use Rattle.std.specs.Prelude.{◌≤◌};
 
 use game::Game;
-use libc::STDOUT_FILENO;
 use session::Session;
+use std::io;
+use std::io::Stdout;
 
 // A session with these lowest letters, bottom letter first, and every other cell `fill`.
 pub fn of(state: u8, height: usize, low: [u8; 4], fill: u8) -> Session {
@@ -85,39 +86,40 @@ fn are_same_cells<'a>(a: &'a [u8; Game::MAX_STACK], b: &'a [u8; Game::MAX_STACK]
 }
 
 // The state and the letters below the height, top letter first; of a tall stack, or one that cannot be, only the height.
-pub fn print(s: Session) {
-    print_number(wide(s.state));
+pub fn print(out: Stdout, s: Session) -> io::Result<()> {
+    print_number(out, wide(s.state))?;
     if 8 < s.height {
-        io::write_all(STDOUT_FILENO, b" height ");
-        print_number(s.height);
-        return;
+        out.write_all(b" height ")?;
+        return print_number(out, s.height);
     }
     let stack = s.stack;
-    io::write_all(STDOUT_FILENO, b" [");
-    print_letters(&stack, s.height);
-    io::write_all(STDOUT_FILENO, b"]");
+    out.write_all(b" [")?;
+    print_letters(out, &stack, s.height)?;
+    out.write_all(b"]")
 }
 
-fn print_letters(stack: &[u8; Game::MAX_STACK], height: usize)
+fn print_letters(out: Stdout, stack: &[u8; Game::MAX_STACK], height: usize) -> io::Result<()>
     requires { height ≤ 256 }
 {
     let mut i = height;
     while 0 < i {
         i -= 1;
-        print_letter(stack[i], i);
+        print_letter(out, stack[i], i)?;
     }
+    Ok(())
 }
 
 // A letter, with a blank after it where others follow.
-fn print_letter(letter: u8, others: usize) {
-    print_number(wide(letter));
+fn print_letter(out: Stdout, letter: u8, others: usize) -> io::Result<()> {
+    print_number(out, wide(letter))?;
     if 0 < others {
-        io::write_all(STDOUT_FILENO, b" ");
+        out.write_all(b" ")?;
     }
+    Ok(())
 }
 
-pub fn print_number(n: usize) {
-    io::print_decimal(STDOUT_FILENO, n as u64);
+pub fn print_number(out: Stdout, n: usize) -> io::Result<()> {
+    out.print(n)
 }
 
 pub fn wide(x: u8) -> usize {

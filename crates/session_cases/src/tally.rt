@@ -1,32 +1,36 @@
 // The tally: how many cases were tried and how many failed. A case that fails prints one line, which starts with its number.
+// What cannot be written of the lines of cases is left out. Where the last line cannot be written, the run ends with its error.
 use crate::forms::{Left, play_lent, play_valued};
 use crate::sessions::{are_same, print, print_number, wide};
 use game::Answer;
-use libc::STDOUT_FILENO;
 use session::Session;
+use std::io;
+use std::io::Stdout;
 
 #[derive(Clone, Copy)]
 pub struct Tally {
     pub tried: usize,
     pub failed: usize,
+    pub out: Stdout,
 }
 
 impl Tally {
-    pub fn none() -> Tally {
+    pub fn none(out: Stdout) -> Tally {
         Tally {
             tried: 0,
             failed: 0,
+            out,
         }
     }
 
     // One case: the rule is played and leads to this session. The session is printed before and after.
     pub fn shows(self, file: &[u8], before: Session, rule: u32, after: Session) -> Tally {
-        print(before);
-        io::write_all(STDOUT_FILENO, b" rule ");
-        print_number(word(rule));
-        io::write_all(STDOUT_FILENO, b": ");
-        print(played(file, before, rule));
-        io::write_all(STDOUT_FILENO, b"\n");
+        self.put_session(before);
+        self.put(b" rule ");
+        self.put_number(word(rule));
+        self.put(b": ");
+        self.put_session(played(file, before, rule));
+        self.put(b"\n");
         self.plays(file, before, rule, after)
     }
 
@@ -67,28 +71,43 @@ impl Tally {
             return Tally {
                 tried,
                 failed: self.failed,
+                out: self.out,
             };
         }
-        io::write_all(STDOUT_FILENO, b"case ");
-        print_number(tried);
-        io::write_all(STDOUT_FILENO, b" fails: rule ");
-        print_number(word(rule));
-        io::write_all(STDOUT_FILENO, b", expected ");
-        print_number(wide(question));
-        io::write_all(STDOUT_FILENO, b"\n");
+        self.put(b"case ");
+        self.put_number(tried);
+        self.put(b" fails: rule ");
+        self.put_number(word(rule));
+        self.put(b", expected ");
+        self.put_number(wide(question));
+        self.put(b"\n");
         Tally {
             tried,
             failed: up(self.failed),
+            out: self.out,
         }
     }
 
     // The last line.
-    pub fn print(self) {
-        io::write_all(STDOUT_FILENO, b"session cases: ");
-        print_number(self.tried);
-        io::write_all(STDOUT_FILENO, b" tried, ");
-        print_number(self.failed);
-        io::write_all(STDOUT_FILENO, b" failed\n");
+    pub fn print(self) -> io::Result<()> {
+        self.out.write_all(b"session cases: ")?;
+        print_number(self.out, self.tried)?;
+        self.out.write_all(b" tried, ")?;
+        print_number(self.out, self.failed)?;
+        self.out.write_all(b" failed\n")
+    }
+
+    // Parts of the line of a case.
+    fn put_session(self, s: Session) {
+        let _ = print(self.out, s);
+    }
+
+    fn put(self, text: &[u8]) {
+        let _ = self.out.write_all(text);
+    }
+
+    fn put_number(self, n: usize) {
+        let _ = print_number(self.out, n);
     }
 }
 

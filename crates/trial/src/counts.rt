@@ -1,10 +1,12 @@
 // What was tried of random games, as counts. A check that fails prints one line with the game's number, the control state and
-// the stack's number.
+// the stack's number, which is left out where it cannot be written: the last line of the counts tells how many failed.
 use crate::contests::Contested;
 use crate::plays::Played;
 use crate::told::Told;
 use output::Line;
 use script::{beyond, up};
+use std::io;
+use std::io::Stdout;
 
 #[derive(Clone, Copy)]
 pub struct Counts {
@@ -33,10 +35,11 @@ pub struct Counts {
     pub turns: usize,
     pub letters: usize,
     pub failed: usize,
+    pub out: Stdout,
 }
 
 impl Counts {
-    pub fn none() -> Counts {
+    pub fn none(out: Stdout) -> Counts {
         Counts {
             games: 0,
             refused: 0,
@@ -57,6 +60,7 @@ impl Counts {
             turns: 0,
             letters: 0,
             failed: 0,
+            out,
         }
     }
 
@@ -153,27 +157,27 @@ impl Counts {
         if holds {
             return self;
         }
-        Line::new()
+        let line = Line::new()
             .word(b"failed: game ")
             .number(number as u64)
             .word(b" state ")
             .number(state as u64)
             .word(b" stack ")
-            .number(stack as u64)
-            .print();
+            .number(stack as u64);
+        let _ = line.print(&self.out);
         self.failed = up(self.failed);
         self
     }
 
-    pub fn print(self) {
-        self.print_games();
-        self.print_positions();
-        self.print_plays();
-        self.print_contests();
-        self.print_failed();
+    pub fn print(self) -> io::Result<()> {
+        self.print_games()?;
+        self.print_positions()?;
+        self.print_plays()?;
+        self.print_contests()?;
+        self.print_failed()
     }
 
-    fn print_games(self) {
+    fn print_games(self) -> io::Result<()> {
         Line::new()
             .word(b"random games: ")
             .number(self.games as u64)
@@ -181,10 +185,10 @@ impl Counts {
             .number(self.refused as u64)
             .word(b", most rounds ")
             .number(self.rounds)
-            .print();
+            .print(&self.out)
     }
 
-    fn print_positions(self) {
+    fn print_positions(self) -> io::Result<()> {
         let won = beyond(self.target, beyond(self.eloise, self.abelard));
         Line::new()
             .word(b"positions: ")
@@ -195,7 +199,7 @@ impl Counts {
             .number(won as u64)
             .word(b", of these beyond the plain solver's depth ")
             .number(self.deep as u64)
-            .print();
+            .print(&self.out)?;
         Line::new()
             .word(b"won: target ")
             .number(self.target as u64)
@@ -205,10 +209,10 @@ impl Counts {
             .number(self.abelard as u64)
             .word(b", largest bound ")
             .number(self.bound)
-            .print();
+            .print(&self.out)
     }
 
-    fn print_plays(self) {
+    fn print_plays(self) -> io::Result<()> {
         Line::new()
             .word(b"plays: ")
             .number(self.plays as u64)
@@ -216,17 +220,17 @@ impl Counts {
             .number(self.moves as u64)
             .word(b", given up as too long ")
             .number(self.long as u64)
-            .print();
+            .print(&self.out)
     }
 
-    fn print_contests(self) {
+    fn print_contests(self) -> io::Result<()> {
         Line::new()
             .word(b"lost: abelard ")
             .number(self.named as u64)
             .word(b" with the lowest rule that stays lost, eloise ")
             .number(self.unnamed as u64)
             .word(b" with none")
-            .print();
+            .print(&self.out)?;
         Line::new()
             .word(b"contests: ")
             .number(self.contests as u64)
@@ -236,14 +240,14 @@ impl Counts {
             .number(self.turns as u64)
             .word(b", letters of the highest stack ")
             .number(self.letters as u64)
-            .print();
+            .print(&self.out)
     }
 
-    fn print_failed(self) {
+    fn print_failed(self) -> io::Result<()> {
         Line::new()
             .word(b"random games: ")
             .number(self.failed as u64)
             .word(b" failed")
-            .print();
+            .print(&self.out)
     }
 }

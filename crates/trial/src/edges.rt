@@ -2,11 +2,13 @@
 use crate::cases::{every_case, every_judge, every_solve};
 use crate::tally::Tally;
 use script::{byte_of, front, put, put_bytes, put_long, put_times};
+use std::io::Stdout;
 
 // The letters above the bottom in the game of many rules.
 const LETTERS: usize = 16;
 
 pub fn every_edge(
+    out: Stdout,
     file: &mut [u8],
     position: &mut [u8],
     table: &mut [u32],
@@ -15,19 +17,20 @@ pub fn every_edge(
 ) -> Tally {
     let a =
         b"\x01\x02\x03\x02\x02\x01\x03\x02\x04\x00\x00\x00\x01\x00\x00\x04\x00\x01\x01\x01\x01\x00\x04\x00\x01\x00\x00\x00\x00\x04\x01\x00\x00\x01\x00\x00\x04\x01\x01\x00\x00\x00\x00\x04\x01\x01\x00\x01\x01\x00\x05\x00\x00\x04\x00\x00\x00\xff";
-    let t = of_sample(a, position, table, work, other);
+    let t = of_sample(out, a, position, table, work, other);
     of_built(t, a, file, position, table, work, other)
 }
 
 // Edges of areas and of heights, with sample A.
 fn of_sample(
+    out: Stdout,
     a: &[u8],
     position: &mut [u8],
     table: &mut [u32],
     work: &mut [u32],
     other: &mut [u32],
 ) -> Tally {
-    let t = every_length(Tally::none(), a, table, work, other);
+    let t = every_length(Tally::none(out), a, table, work, other);
     every_height(t, a, position, table, work)
 }
 

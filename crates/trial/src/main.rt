@@ -22,19 +22,28 @@ mod trials;
 use crate::edges::every_edge;
 use crate::samples::{every_d, every_small};
 use crate::trials::every_game;
+use std::io;
 
 // Files are built in the first buffer. The areas have room for more words than may be lent.
-fn main() {
+fn main(rt: HostRuntime) -> io::Result<()> {
     let mut file = [0u8; 5000];
     let mut position = [0u8; 300];
     let mut table = [0u32; 6150];
     let mut work = [0u32; 6150];
     let mut other = [0u32; 6150];
-    let small = every_small(&mut position, &mut table, &mut work, &mut other);
-    small.print(b"samples A, B and C: ");
-    let d = every_d(&mut file, &mut table, &mut work, &mut other);
-    d.print(b"sample D with 1 to 41 letters: ");
-    let edges = every_edge(&mut file, &mut position, &mut table, &mut work, &mut other);
-    edges.print(b"edges: ");
-    every_game(&mut file, &mut position, &mut table, &mut work);
+    let out = rt.stdout();
+    let small = every_small(out, &mut position, &mut table, &mut work, &mut other);
+    small.print(b"samples A, B and C: ")?;
+    let d = every_d(out, &mut file, &mut table, &mut work, &mut other);
+    d.print(b"sample D with 1 to 41 letters: ")?;
+    let edges = every_edge(
+        out,
+        &mut file,
+        &mut position,
+        &mut table,
+        &mut work,
+        &mut other,
+    );
+    edges.print(b"edges: ")?;
+    every_game(out, &mut file, &mut position, &mut table, &mut work)
 }

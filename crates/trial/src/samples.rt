@@ -4,18 +4,20 @@ use crate::tally::Tally;
 use crate::told::Told;
 use judge::judge;
 use script::{front, front_words, lent, put_d, up};
+use std::io::Stdout;
 
 // Sample D goes from 1 letter above the bottom to this number, the first at which the rounds are too many.
 const MOST_LETTERS: usize = 41;
 
 // Samples A, B and C.
 pub fn every_small(
+    out: Stdout,
     position: &mut [u8],
     table: &mut [u32],
     work: &mut [u32],
     other: &mut [u32],
 ) -> Tally {
-    let t = sample_a(Tally::none(), position, table, work, other);
+    let t = sample_a(Tally::none(out), position, table, work, other);
     sample_b_and_c(t, position, table, work, other)
 }
 
@@ -101,8 +103,14 @@ fn sample_c(
 }
 
 // Sample D with 1 letter above the bottom and more, each with its bound at (0,[1,0]), 2^n - 1.
-pub fn every_d(file: &mut [u8], table: &mut [u32], work: &mut [u32], other: &mut [u32]) -> Tally {
-    let mut t = Tally::none();
+pub fn every_d(
+    out: Stdout,
+    file: &mut [u8],
+    table: &mut [u32],
+    work: &mut [u32],
+    other: &mut [u32],
+) -> Tally {
+    let mut t = Tally::none(out);
     let mut bound = 1;
     let mut n = 1;
     while n < MOST_LETTERS {

@@ -1,19 +1,24 @@
-// The tally: how many checks were made and how many failed. A check that fails prints one line.
+// The tally: how many checks were made and how many failed. A check that fails prints one line, which is left out where it cannot
+// be written: the line of the tally itself tells how many failed.
 use crate::told::Told;
 use output::Line;
 use script::up;
+use std::io;
+use std::io::Stdout;
 
 #[derive(Clone, Copy)]
 pub struct Tally {
     pub tried: usize,
     pub failed: usize,
+    pub out: Stdout,
 }
 
 impl Tally {
-    pub fn none() -> Tally {
+    pub fn none(out: Stdout) -> Tally {
         Tally {
             tried: 0,
             failed: 0,
+            out,
         }
     }
 
@@ -24,15 +29,15 @@ impl Tally {
             return Tally {
                 tried,
                 failed: self.failed,
+                out: self.out,
             };
         }
-        Line::new()
-            .word(b"failed: check ")
-            .number(tried as u64)
-            .print();
+        let line = Line::new().word(b"failed: check ").number(tried as u64);
+        let _ = line.print(&self.out);
         Tally {
             tried,
             failed: up(self.failed),
+            out: self.out,
         }
     }
 
@@ -43,17 +48,17 @@ impl Tally {
         }
         let line = Line::new().word(b"expected ");
         let line = expected.after(line).word(b", got ");
-        got.after(line).print();
+        let _ = got.after(line).print(&self.out);
         self.held(false)
     }
 
-    pub fn print(self, what: &[u8]) {
+    pub fn print(self, what: &[u8]) -> io::Result<()> {
         Line::new()
             .word(what)
             .number(self.tried as u64)
             .word(b" checks, ")
             .number(self.failed as u64)
             .word(b" failed")
-            .print();
+            .print(&self.out)
     }
 }

@@ -16,6 +16,8 @@ use crate::plays::{Place, place_of, play, spread_of};
 use crate::told::Told;
 use script::{front, front_words, lent, up};
 use solver::solve;
+use std::io;
+use std::io::Stdout;
 
 const GAMES: usize = 320;
 
@@ -31,15 +33,21 @@ const DRAWN: usize = 4;
 // More than any of the games has control states.
 const STATES: usize = 3;
 
-pub fn every_game(file: &mut [u8], position: &mut [u8], table: &mut [u32], work: &mut [u32]) {
-    let mut c = Counts::none();
+pub fn every_game(
+    out: Stdout,
+    file: &mut [u8],
+    position: &mut [u8],
+    table: &mut [u32],
+    work: &mut [u32],
+) -> io::Result<()> {
+    let mut c = Counts::none(out);
     let mut number = 0;
     while number < GAMES {
         let g = put_game(file, number);
         c = one_game(c, number, front(file, g.size), g, position, table, work);
         number += 1;
     }
-    c.print();
+    c.print()
 }
 
 fn one_game(
