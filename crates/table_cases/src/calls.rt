@@ -10,6 +10,7 @@ use crate::expected::Expected;
 use crate::tally::{Case, Tally};
 use game::{Answer, Sizes};
 use output::Line;
+use std::io::Stdout;
 use table::{EntryWords, entries_form};
 
 // An index beyond those of the table.
@@ -22,8 +23,8 @@ pub fn every_call(t: Tally, sizes: Sizes, rules: &[u8], table: &[u32], words: &m
     let mut t = t;
     let mut what = Case::EMPTY;
     while what <= Case::LEFT_OVER {
-        let c = every_place(what, sizes, rules, table, words);
-        c.print_after(heading(Line::new(), what));
+        let c = every_place(t.out, what, sizes, rules, table, words);
+        let _ = c.print_after(heading(Line::new(), what));
         t = t.and(c);
         what += 1;
     }
@@ -42,10 +43,17 @@ fn heading(line: Line, what: usize) -> Line {
 }
 
 // The calls of one kind.
-fn every_place(what: usize, sizes: Sizes, rules: &[u8], table: &[u32], words: &mut [u32]) -> Tally
+fn every_place(
+    out: Stdout,
+    what: usize,
+    sizes: Sizes,
+    rules: &[u8],
+    table: &[u32],
+    words: &mut [u32],
+) -> Tally
     requires { Safe sizes rules.now × (length table.now ≡ sample_words) × (length words.old ≡ sample_words) }
 {
-    let mut t = Tally::none();
+    let mut t = Tally::none(out);
     let mut i = 0;
     while i < ENTRIES {
         t = one_place(t, what, sizes, rules, table, words, i);

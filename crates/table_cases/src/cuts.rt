@@ -11,6 +11,7 @@ use crate::parts::form_of_parts;
 use crate::tally::{Case, Tally};
 use game::{Answer, Sizes};
 use output::Line;
+use std::io::Stdout;
 use table::table_form;
 
 // The whole table in one call.
@@ -42,8 +43,8 @@ pub fn every_group(t: Tally, sizes: Sizes, rules: &[u8], table: &[u32], words: &
     let mut t = t;
     let mut group = 0;
     while group < GROUPS {
-        let g = every_damage(group, sizes, rules, table, words);
-        g.print_after(heading(Line::new(), group));
+        let g = every_damage(t.out, group, sizes, rules, table, words);
+        let _ = g.print_after(heading(Line::new(), group));
         t = t.and(g);
         group += 1;
     }
@@ -95,10 +96,17 @@ fn sound_group(used: usize, cut: usize) -> usize {
 }
 
 // The checks of one group.
-fn every_damage(group: usize, sizes: Sizes, rules: &[u8], table: &[u32], words: &mut [u32]) -> Tally
+fn every_damage(
+    out: Stdout,
+    group: usize,
+    sizes: Sizes,
+    rules: &[u8],
+    table: &[u32],
+    words: &mut [u32],
+) -> Tally
     requires { Safe sizes rules.now × (length words.old ≡ sample_words) }
 {
-    let mut t = Tally::none();
+    let mut t = Tally::none(out);
     let mut n = 0;
     while n < Damage::KINDS * USED {
         let damage = Damage {

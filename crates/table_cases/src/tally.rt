@@ -1,9 +1,12 @@
-// The tally: how many checks were made and how many failed. A check that fails prints one line.
+// The tally: how many checks were made and how many failed. A check that fails prints one line. A line that cannot be written is
+// left out, but for the last one: where that cannot be written, the run ends with its error.
 use crate::damage::Damage;
 use crate::expected::{Expected, answer_after};
 use game::Answer;
 use output::Line;
 use script::{beyond, up};
+use std::io;
+use std::io::Stdout;
 
 // What is checked: a kind of damage or of call, the entry that it is about, and the cut, or the index of a part.
 #[derive(Clone, Copy)]
@@ -47,13 +50,15 @@ impl Case {
 pub struct Tally {
     pub tried: usize,
     pub failed: usize,
+    pub out: Stdout,
 }
 
 impl Tally {
-    pub fn none() -> Tally {
+    pub fn none(out: Stdout) -> Tally {
         Tally {
             tried: 0,
             failed: 0,
+            out,
         }
     }
 
@@ -64,7 +69,7 @@ impl Tally {
         }
         let line = case.line().word(b": expected ");
         let line = expected.after(line).word(b", got ");
-        answer_after(line, got).print();
+        let _ = answer_after(line, got).print(&self.out);
         self.with(1)
     }
 
@@ -73,7 +78,7 @@ impl Tally {
         if holds {
             return self.with(0);
         }
-        case.line().print();
+        let _ = case.line().print(&self.out);
         self.with(1)
     }
 
@@ -82,19 +87,20 @@ impl Tally {
         Tally {
             tried: beyond(self.tried, other.tried),
             failed: beyond(self.failed, other.failed),
+            out: self.out,
         }
     }
 
-    pub fn print(self, what: &[u8]) {
-        self.print_after(Line::new().word(what));
+    pub fn print(self, what: &[u8]) -> io::Result<()> {
+        self.print_after(Line::new().word(what))
     }
 
-    pub fn print_after(self, line: Line) {
+    pub fn print_after(self, line: Line) -> io::Result<()> {
         line.number(self.tried as u64)
             .word(b" checks, ")
             .number(self.failed as u64)
             .word(b" failed")
-            .print();
+            .print(&self.out)
     }
 
     // One check more, with 0 or 1 that failed.
@@ -102,6 +108,7 @@ impl Tally {
         Tally {
             tried: up(self.tried),
             failed: beyond(self.failed, failed),
+            out: self.out,
         }
     }
 }
