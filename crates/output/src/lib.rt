@@ -5,10 +5,9 @@
 
 ghost use Rattle.std.specs.Prelude.{◌≤◌, length, IfOk};
 
-use std::fmt;
 use std::fmt::Write;
-use std::io;
 use std::io::Read;
+use std::{fmt, io};
 
 // What was gathered so far, and how many bytes that is.
 #[derive(Clone, Copy)]

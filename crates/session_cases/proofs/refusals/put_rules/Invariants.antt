@@ -1,7 +1,6 @@
 use Prim.Native.Nat.{◌-◌}
 use mathlib.Core.Path.{◌≡◌}
 use lib.ListN.{length}
-use borrow.Author.Rules.{rules}
 use Rattle.session_cases.proofs.refusals.put_rules.Given as goal
 
 -- The loop keeps the buffer's length and takes 257 turns. The measure is how many rules are left. Assumes nothing.
