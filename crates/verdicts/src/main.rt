@@ -35,7 +35,14 @@ fn main(rt: HostRuntime) -> io::Result<()> {
     let mut table = [0u32; EntryWords::STRIDE * Game::MAX_ENTRIES];
     let mut work = [0u32; EntryWords::STRIDE * Game::MAX_ENTRIES];
     let mut input = rt.stdin();
-    run(&mut input, &rt, &mut file, &mut position, &mut table, &mut work)
+    run(
+        &mut input,
+        &rt,
+        &mut file,
+        &mut position,
+        &mut table,
+        &mut work,
+    )
 }
 
 // The game, and then its positions. The pieces are read into the first two buffers.

@@ -6,7 +6,7 @@ use Rattle.lister.proofs.print_entries.Given as goal
 -- entries are there. The measure is how many entries are left.
 -- Assumes nothing.
 abbrev pub invariant-loop-i : goal.invariant-loop-i
-invariant-loop-i l = l.i * 3 ≤ length l.table
+invariant-loop-i g l = l.i * 3 ≤ length l.table
 
 abbrev pub decreases-loop-i : goal.decreases-loop-i
-decreases-loop-i l = length l.table - l.i
+decreases-loop-i g l = length l.table - l.i

@@ -6,7 +6,7 @@ use Rattle.verdicts.proofs.judge_all.Given as goal
 -- that may still come.
 -- Assumes nothing.
 abbrev pub invariant-loop-left : goal.invariant-loop-left
-invariant-loop-left l = length l.position ≡ length l.initial.position
+invariant-loop-left g l = length l.position ≡ length l.initial.position
 
 abbrev pub decreases-loop-left : goal.decreases-loop-left
-decreases-loop-left l = l.left
+decreases-loop-left g l = l.left
