@@ -18,7 +18,7 @@ use Rattle.game.specs.SetLaws.{union-below, union-has, left-union, right-union, 
 use Rattle.game.specs.ListLaws.{test, clash}
 use Rattle.family.specs.Family.{holds, Unites, UnionIn, Row, UnitesInto, Gathered}
 use Rattle.family.proofs.Within.{Within, within-least, contained, left-least, right-least, next-within, again-within, part-within, brought-back, next-above, union-contains}
-use Rattle.family.proofs.Places.{at-word, at_front, word-is, bit_is, of_word, whole, union-parts, union-place, joined-kept, joined-from, joined-into}
+use Rattle.family.proofs.Places.{at-word, word-is, of_word, whole, union-parts, union-place, joined-kept, joined-from, joined-into}
 
 -- The words that lack of p what is within i and not below s are joined.
 pub record Gathering (i p : ℕ) (a : List ℕ) (at sum s : ℕ) : Type 0 where

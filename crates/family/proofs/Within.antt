@@ -1,7 +1,7 @@
 -- Sets of at most four elements as numbers below 16, one within another. What `or_add_and` does not give is a test of all such numbers.
 use Prim.Native.Nat.{ℕ, ◌+◌, ◌-◌, ◌<◌, ◌≤◌}
 use native.Mathlib.Omega.{arith}
-use mathlib.Core.Path.{◌≡◌, refl, sym, ap, ◌∙◌}
+use mathlib.Core.Path.{◌≡◌, refl}
 use mathlib.Core.Bool.{Bool, true, false, not, ◌||◌}
 use lib.Bits.{bit_and, or_add_and, and_le_l, and_le_r}
 use lib.Dec.{eqb, ltb, leb}

@@ -1,7 +1,6 @@
 -- The answer of questions 3 to 7 by the first that is answered no.
-use Prim.Native.Nat.{ℕ}
-use mathlib.Core.Path.{◌≡◌, refl, sym, ap, ◌∙◌}
-use mathlib.Core.Bool.{Bool, true, false}
+use mathlib.Core.Path.{◌≡◌, sym, ap, ◌∙◌}
+use mathlib.Core.Bool.{true, false}
 use Rattle.game.specs.Game.{PushdownGame}
 use Rattle.game.specs.Stored.{sizes_of}
 use Rattle.game.specs.Questions.{in_order, in_range, keeps_bottom, is_new, has_room, ask}

@@ -1,15 +1,13 @@
 -- The last two answers of the command reader.
 use Prim.Native.Nat.{ℕ, ◌+◌, ◌-◌, ◌<◌}
-use mathlib.Core.Path.{◌≡◌, refl}
+use mathlib.Core.Path.{◌≡◌}
 use mathlib.Core.List.{List}
 use native.Mathlib.Omega.{arith}
 use lib.ListN.{length}
 use borrow.Author.Tests.{le-ltb, ne_eqb}
 use Rattle.game.specs.Command.{whole, decoded}
 use Rattle.game.specs.declared.command.Command.{Command}
-use Rattle.game.specs.declared.command.Command.TheVariants.{End}
-use Rattle.game.specs.declared.command.Found.{Found}
-use Rattle.game.specs.declared.command.Found.TheVariants.{Next, Missing, Unknown}
+use Rattle.game.specs.declared.command.Found.TheVariants.{Next, Unknown}
 
 -- a command of one byte is whole
 pub one_byte : (file : List ℕ) (at : ℕ) (command : Command) → at < length file → Next command (at + 1) ≡ whole file at 1 command

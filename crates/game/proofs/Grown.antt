@@ -1,11 +1,10 @@
 -- What storing one rule, or one target transition, more makes of the flat lists, and of a game's parts.
-use Prim.Native.Nat.{ℕ, zero, suc, ◌+◌, ◌*◌, ◌-◌, ◌<◌, ◌≤◌}
+use Prim.Native.Nat.{ℕ, suc, ◌+◌, ◌*◌, ◌-◌, ◌<◌}
 use mathlib.Core.Path.{◌≡◌, refl, sym, ap, ◌∙◌}
 use mathlib.Core.List.{List, [], ◌∷◌, ◌++◌, append_assoc}
 use native.Mathlib.Omega.{arith}
 use native.Mathlib.Nat.{suc-add}
-use native.Mathlib.Numerals.{add-one}
-use lib.ListN.{length, set, replicate, length-append}
+use lib.ListN.{length, set, length-append}
 use Rattle.game.specs.Game.{Rule, Transition, PushdownGame}
 use Rattle.game.specs.Limits.{max_rules, max_targets}
 use Rattle.game.specs.Stored.{rule_bytes, target_words, padded}

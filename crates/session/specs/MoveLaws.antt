@@ -1,6 +1,6 @@
 -- Laws of the move: a played one is the rule's move on the position and keeps its form, a refused one changes nothing, and by which
 -- numbers it is refused.
-use Rattle.std.specs.Prelude.{ℕ, ◌-◌, ◌≤◌, ◌⊎◌, true, false, ◌&&◌, drop, replicate}
+use Rattle.std.specs.Prelude.{ℕ, ◌-◌, ◌≤◌, true, false, ◌&&◌, drop, replicate}
 use Rattle.std.proofs.Math.Path.{◌≡◌, refl}
 use Rattle.std.proofs.Common.{sym, ap, subst, ◌∙◌, arith, length-append, drop_at, leb-true}
 use Rattle.std.proofs.Math.Logic.{⊎_elim}

@@ -1,5 +1,5 @@
 -- Laws of sessions and their positions.
-use Rattle.std.specs.Prelude.{ℕ, zero, suc, ◌+◌, ◌-◌, ◌≤◌, ◌≡◌, refl, List, [], ◌∷◌, ◌++◌, length, take, replicate}
+use Rattle.std.specs.Prelude.{ℕ, zero, suc, ◌-◌, ◌≤◌, ◌≡◌, refl, List, [], ◌∷◌, ◌++◌, length, take, replicate}
 use Rattle.std.proofs.Common.{sym, ap, append-nil, append_assoc, arith, length-append, take-suc}
 use Rattle.std.proofs.lemmas.List.{get_or_at}
 use Rattle.game.specs.Limits.{max_stack}

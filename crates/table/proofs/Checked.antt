@@ -1,16 +1,16 @@
 -- Question 13 of one entry, by the tests that the code makes.
-use Prim.Native.Nat.{ℕ, ◌+◌, ◌*◌, ◌-◌, ◌/◌, ◌%◌, ◌^◌, ◌<◌, ◌≤◌}
+use Prim.Native.Nat.{ℕ, ◌*◌, ◌-◌, ◌/◌, ◌%◌, ◌^◌, ◌<◌, ◌≤◌}
 use mathlib.Core.Path.{◌≡◌, refl, sym, ap, ◌∙◌}
 use mathlib.Core.Bool.{Bool, true, false, cond, not, ◌&&◌}
-use mathlib.Core.List.{List, ◌++◌}
+use mathlib.Core.List.{List}
 use native.Mathlib.Omega.{arith}
 use native.Mathlib.Nat.{div-eq_of_lt}
 use lib.ListN.{length, get_or}
 use lib.Dec.{ltb, eqb}
 use borrow.Author.Tests.{lt-ltb, le-ltb, eq-eqb}
 use Rattle.game.specs.Sets.{has, within}
-use Rattle.game.specs.Game.{PushdownGame, Rule, of_head, rules_of}
-use Rattle.game.specs.Stored.{rule_bytes, rule_at, sizes_of}
+use Rattle.game.specs.Game.{PushdownGame, of_head, rules_of}
+use Rattle.game.specs.Stored.{rule_at, sizes_of}
 use Rattle.game.specs.StoredLaws.{no_rule, rule-stored}
 use Rattle.game.specs.NumberLaws.{none-past, one_at}
 use Rattle.game.specs.Held.{Held}

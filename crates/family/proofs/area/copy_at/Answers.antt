@@ -2,7 +2,7 @@ use borrow.Author.Rules.{rules}
 use native.Mathlib.Omega.{arith}
 use mathlib.Core.Path.{refl}
 use lib.ListN.{length-set}
-use Rattle.family.proofs.Areas.{walk-starts, walk-on, copied, copied_all, copied-one, copied-two, copied-four}
+use Rattle.family.proofs.Areas.{walk-starts, walk-on, copied_all, copied-one, copied-two, copied-four}
 use Rattle.family.proofs.area.copy_at.Goals as goal
 
 pub offset_bounds-others-at : goal.offset_bounds-others-at

@@ -1,7 +1,7 @@
 use borrow.Author.Rules.{rules}
 use native.Mathlib.Omega.{arith}
 use mathlib.Core.Path.{refl}
-use Rattle.family.proofs.Areas.{walk-starts, walk_here, walk-on, joined, joined-all, joined-one}
+use Rattle.family.proofs.Areas.{walk-starts, walk_here, walk-on, joined-all, joined-one}
 use Rattle.family.proofs.area.join_at.Goals as goal
 
 pub offset_bounds-words-to : goal.offset_bounds-words-to

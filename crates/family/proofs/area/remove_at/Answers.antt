@@ -1,6 +1,6 @@
 use native.Mathlib.Omega.{arith}
 use mathlib.Core.Path.{refl}
-use Rattle.family.proofs.Areas.{walk-starts, walk_here, walk-on, without, without_all}
+use Rattle.family.proofs.Areas.{walk-starts, walk_here, walk-on, without_all}
 use Rattle.family.proofs.area.remove_at.Goals as goal
 
 pub loop-i-init : goal.loop-i-init

@@ -1,6 +1,5 @@
 use native.Mathlib.Omega.{arith}
 use mathlib.Core.Path.{refl, ◌∙◌}
-use mathlib.Core.Logic.{⊎_elim}
 use lib.ListN.{length-set}
 use Rattle.family.proofs.Into.{adding-starts, adding-skips, adding-more, adding-ends, one_word}
 use Rattle.family.proofs.uniting.unite_into.Goals as goal

@@ -1,7 +1,7 @@
 use Prim.Native.Nat.{ℕ, ◌≤◌, ◌<◌, ◌-◌}
 use mathlib.Core.Path.{◌≡◌}
 use mathlib.Core.Bool.{true}
-use Rattle.game.specs.Marks.{marked, head_marked}
+use Rattle.game.specs.Marks.{head_marked}
 use Rattle.game.proofs.question.is_every_letter.Given as goal
 
 -- Every letter below the one looked at is marked with this control state. The measure is how many letters are left.

@@ -1,13 +1,11 @@
 use mathlib.Core.Path.{ap, ◌∙◌}
-use mathlib.Core.Bool.{true, not}
-use borrow.Enum.Refused.{opened}
+use mathlib.Core.Bool.{not}
 use Rattle.game.specs.Sets.{has}
 use Rattle.game.specs.Stored.{padded}
 use Rattle.game.specs.Questions.{is_new}
 use Rattle.game.specs.declared.game.Sizes.{Sizes}
 use Rattle.game.proofs.Commands.{new-other}
 use Rattle.game.proofs.Filtering.{new-rule, new-target}
-use borrow.Author.Rules.{rules}
 use Rattle.game.proofs.question.is_new.Goals as goal
 
 pub returns-then-not-is_marked : goal.returns-then-not-is_marked

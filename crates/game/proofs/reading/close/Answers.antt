@@ -5,7 +5,6 @@ use Rattle.game.specs.Stored.{padded}
 use Rattle.game.specs.Parts.{whole}
 use Rattle.game.specs.declared.game.Sizes.{Sizes}
 use Rattle.game.proofs.Going.{heads-found}
-use borrow.Author.Rules.{rules}
 use Rattle.game.proofs.reading.close.Goals as goal
 
 pub returns-then-after-size : goal.returns-then-after-size

@@ -1,7 +1,6 @@
 use Prim.Native.Nat.{◌*◌, ◌-◌, ◌/◌, ◌≤◌}
 use mathlib.Core.Path.{◌≡◌}
 use lib.ListN.{length, drop}
-use borrow.Author.Rules.{rules}
 use Rattle.game.specs.Game.{PushdownGame}
 use Rattle.game.specs.Held.{Held}
 use Rattle.table.specs.Table.{form_from, table_form}

@@ -1,6 +1,5 @@
 use Prim.Native.Nat.{◌-◌}
 use lib.ListN.{length}
-use borrow.Author.Rules.{rules}
 use Rattle.game.proofs.Going.{Going}
 use Rattle.game.proofs.game.Game.read.Given as goal
 

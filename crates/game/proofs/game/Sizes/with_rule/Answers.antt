@@ -1,6 +1,5 @@
 use Rattle.game.proofs.Grown.{with-rule, counted-rules}
 use Rattle.game.proofs.Filtering.{with-rule-marked}
-use borrow.Author.Rules.{rules}
 use Rattle.game.proofs.game.Sizes.with_rule.Goals as goal
 
 pub returns : goal.returns

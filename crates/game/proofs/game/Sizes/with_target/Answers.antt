@@ -1,6 +1,5 @@
 use Rattle.game.proofs.Grown.{with-target, counted-targets}
 use Rattle.game.proofs.Filtering.{with-target-marked}
-use borrow.Author.Rules.{rules}
 use Rattle.game.proofs.game.Sizes.with_target.Goals as goal
 
 pub returns : goal.returns
