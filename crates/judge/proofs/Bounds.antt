@@ -19,13 +19,13 @@ use Rattle.game.specs.declared.game.Sizes.{Sizes}
 use Rattle.table.specs.Table.{Entry, entries_of}
 use Rattle.judge.specs.Worth.{Automaton, no_worth, coded, step, step_worth, worths, entry_of_head, entry_worth, worth_is, least_over, head_rule, field_number, advice_at}
 use Rattle.judge.specs.Tabulate.{tabulate-at}
-use Rattle.judge.specs.Range.{length-worths}
+use Rattle.judge.proofs.Range.{length-worths}
 use Rattle.judge.specs.Verdict.{lost, target, eloise, abelard, or_zero, to_move, lost_field, verdict_of, verdict_over, verdict}
 use Rattle.judge.specs.Machine.{machine, automaton_of, Tame, Low, Lows, Numbers, Asked, least_number, head_number, rule_number}
 use Rattle.judge.specs.Judged.{Fielded}
-use Rattle.judge.specs.CodedLaws.{Held, coded-up-to, coded_none, coded-some}
-use Rattle.judge.specs.MachineLaws.{low_held, step-coded, rules-coded}
-use Rattle.judge.specs.Within.{least_over-is, tested-is}
+use Rattle.judge.proofs.CodedLaws.{Held, coded-up-to, coded_none, coded-some}
+use Rattle.judge.proofs.MachineLaws.{low_held, step-coded, rules-coded}
+use Rattle.judge.proofs.Within.{least_over-is, tested-is}
 use Rattle.judge.proofs.Steps.{field-small}
 use Rattle.judge.proofs.Recursion.{below_top, top-letter, lows, tame-worths}
 

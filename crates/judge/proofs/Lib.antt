@@ -1,3 +1,14 @@
+pub mod Within
+pub mod Range
+pub mod RunLaws
+pub mod Target
+pub mod Advice
+pub mod Accepted
+pub mod Most
+pub mod LostLaws
+pub mod LostField
+pub mod CodedLaws
+pub mod MachineLaws
 pub mod Bounds
 pub mod Filling
 pub mod LostRules

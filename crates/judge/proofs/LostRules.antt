@@ -26,10 +26,10 @@ use Rattle.table.specs.Table.{entries_of}
 use Rattle.judge.specs.Worth.{Automaton, no_worth, coded, is_none, worth_in, step}
 use Rattle.judge.specs.Verdict.{successor_worth, losing_field, lost_field}
 use Rattle.judge.specs.Machine.{automaton_of, Numbers, LostStates, head_lost}
-use Rattle.judge.specs.CodedLaws.{Held, held_none, held-some}
-use Rattle.judge.specs.MachineLaws.{low_held, machine-at}
-use Rattle.judge.specs.LostLaws.{writes-none, writes_one, writes-two}
-use Rattle.judge.specs.LostField.{field-eloise}
+use Rattle.judge.proofs.CodedLaws.{Held, held_none, held-some}
+use Rattle.judge.proofs.MachineLaws.{low_held, machine-at}
+use Rattle.judge.proofs.LostLaws.{writes-none, writes_one, writes-two}
+use Rattle.judge.proofs.LostField.{field-eloise}
 use Rattle.judge.specs.LostStateLaws.{head-lost, step-lost}
 
 -- The states below q that pass a test are in the set, and no others.

@@ -16,9 +16,9 @@ use Rattle.game.specs.ListLaws.{test}
 use Rattle.game.specs.declared.game.Sizes.{Sizes}
 use Rattle.table.specs.Table.{entries_of}
 use Rattle.judge.specs.Worth.{Automaton, base_weight, worth_in, step, worths}
-use Rattle.judge.specs.Range.{WeightsUpTo, worth-range, base_weight-mono, length-worths}
+use Rattle.judge.proofs.Range.{WeightsUpTo, worth-range, base_weight-mono, length-worths}
 use Rattle.judge.specs.Machine.{machine, automaton_of, most_below, Tame, Young, Low, Lows}
-use Rattle.judge.specs.MachineLaws.{past, tame}
+use Rattle.judge.proofs.MachineLaws.{past, tame}
 
 -- the part of a stack after its top letter
 pub below_top : (w : List ℕ) → take (length w - 1) (drop 1 w) ≡ drop 1 w

@@ -10,15 +10,17 @@ use Rattle.game.specs.Questions.{reading}
 use Rattle.game.specs.Win.{Position, letters_below, in_form, Lost}
 use Rattle.table.specs.Table.{Entry, entries_of}
 use Rattle.judge.specs.Worth.{bound}
-use Rattle.judge.specs.Within.{none-some}
+use Rattle.judge.proofs.Within.{none-some}
 use Rattle.judge.specs.Verdict.{lost}
 use Rattle.judge.specs.Play.{rule_numbered, playing, wanted, after_effect, start}
 use Rattle.judge.specs.Contest.{rule_of_field, turn_against, one_against, contest}
 use Rattle.rounds.specs.Solving.{Solved, solved_of, solving}
-use Rattle.rounds.specs.Samples.{rule_five_to, sample_b, computing, verdict_on}
-use Rattle.rounds.specs.SamplePlay.{game_five_to}
-use Rattle.rounds.specs.Demand3.{Plays, demand-three}
-use Rattle.rounds.specs.StaysLost.{StaysLost, Contests, stays-lost}
+use Rattle.rounds.proofs.Samples.{rule_five_to, sample_b, computing, verdict_on}
+use Rattle.rounds.proofs.SamplePlay.{game_five_to}
+use Rattle.rounds.specs.Demand3.{Plays}
+use Rattle.rounds.proofs.Demand3.{demand-three}
+use Rattle.rounds.specs.StaysLost.{StaysLost, Contests}
+use Rattle.rounds.proofs.StaysLost.{stays-lost}
 
 -- the table of B: (1,1) has no transition
 unfoldable pub entries_b : List Entry

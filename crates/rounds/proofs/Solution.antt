@@ -14,16 +14,16 @@ use Rattle.game.specs.Reads.{good}
 use Rattle.table.specs.Table.{Entry, entry_stride, length_in_form, table_words, entries_of, table_form}
 use Rattle.table.specs.FormLaws.{cond-done}
 use Rattle.judge.specs.Worth.{automaton, bound}
-use Rattle.judge.specs.Within.{within-worth}
+use Rattle.judge.proofs.Within.{within-worth}
 use Rattle.judge.specs.PositionLaws.{Formed, bytes-pass}
 use Rattle.judge.specs.Verdict.{verdict, verdict_of_bytes, judging_game, judging}
 use Rattle.rounds.specs.Solving.{Solved, solved_table, solved_of, solving_game, solving_words}
-use Rattle.rounds.specs.RoundLaws.{round-ranged}
-use Rattle.rounds.specs.Sound.{Sound, round-sound}
-use Rattle.rounds.specs.Settled.{Closed, settled-closed, won-within}
-use Rattle.rounds.specs.PlayTheorem.{bound-won}
+use Rattle.rounds.proofs.RoundLaws.{round-ranged}
+use Rattle.rounds.proofs.Sound.{Sound, round-sound}
+use Rattle.rounds.proofs.Settled.{Closed, settled-closed, won-within}
+use Rattle.rounds.proofs.PlayTheorem.{bound-won}
 use Rattle.table.specs.WordLaws.{form-bytes, words-entries, words-length, words-pass}
-use Rattle.rounds.specs.SolvingLaws.{SolvedAt, solved-at}
+use Rattle.rounds.proofs.SolvingLaws.{SolvedAt, solved-at}
 
 -- a length in form is that of whole entries
 pub in-entries : (n : ℕ) → length_in_form n ≡ true → n ≡ entry_stride * (n / entry_stride)

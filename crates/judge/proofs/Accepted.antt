@@ -17,10 +17,11 @@ use Rattle.game.specs.ListLaws.{◌∈◌, test}
 use Rattle.game.specs.SetLaws.{has-from}
 use Rattle.table.specs.FormLaws.{InForm}
 use Rattle.judge.specs.Worth.{automaton, base_weight, entry_worth, step_worth, worths, advice_at, entry_of_head}
-use Rattle.judge.specs.Within.{AtMost, exact, most-of, Within, worth-within, entry-within}
-use Rattle.judge.specs.Range.{WeightsUpTo, base_weight-mono}
-use Rattle.judge.specs.Target.{head-is, zero-or-more, weight-zero}
-use Rattle.judge.specs.Advice.{within-head, advice}
+use Rattle.judge.specs.Within.{Within}
+use Rattle.judge.proofs.Within.{AtMost, exact, most-of, worth-within, entry-within}
+use Rattle.judge.proofs.Range.{WeightsUpTo, base_weight-mono}
+use Rattle.judge.proofs.Target.{head-is, zero-or-more, weight-zero}
+use Rattle.judge.proofs.Advice.{within-head, advice}
 use Rattle.judge.specs.Verdict.{target, eloise, abelard, or_zero, to_move, lost_field, verdict_of, verdict_over, verdict, verdict_of_bytes, judging_game}
 
 -- a verdict for Éloise is that of a bound above 0

@@ -8,7 +8,7 @@ use Rattle.game.specs.Game.{Rule, PushdownGame, word_of}
 use Rattle.table.specs.Table.{Entry}
 use Rattle.judge.specs.Worth.{Automaton, automaton, worth_in, step_worth, step, steps, worths, bound}
 use Rattle.judge.specs.Tabulate.{tabulate-at}
-use Rattle.judge.specs.Within.{worth-cons}
+use Rattle.judge.proofs.Within.{worth-cons}
 use Rattle.judge.specs.Verdict.{lost, successor_worth, lost_field_of, verdict_of, verdict_over, verdict}
 
 -- a worth is none or a number

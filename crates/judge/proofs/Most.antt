@@ -1,0 +1,124 @@
+-- What a call of the judge can give: a bound of at most 256 × (2^R − 1), R the round limit, or a refusal by a question before the verdict.
+-- No number stands for a bound that is too large; 15 is not used.
+use Rattle.std.specs.Prelude.{ℕ, suc, ◌*◌, ◌^◌, ◌<◌, ◌≤◌, ◌≡◌, ◌⊎◌, Bool, true, false, cond, List, [], ◌∷◌, length, eqb}
+use Rattle.std.proofs.Common.{mul-le-mul_right, le_trans, sym, inl, inr}
+use native.Mathlib.Omega.{arith}
+use Rattle.std.proofs.Math.Path.{refl}
+use Rattle.std.proofs.Math.Option.{Option, none, some}
+use Rattle.game.specs.Limits.{max_rounds, max_stack}
+use Rattle.game.specs.Game.{PushdownGame}
+use Rattle.game.specs.Outcome.{done}
+use Rattle.game.specs.Numbers.{is_one_of, file_numbers, table_numbers, position_numbers, judge_numbers}
+use Rattle.game.specs.OutcomeLaws.{done-same, after-done, RefusedBy, by-none, by_after, by_front, by-back}
+use Rattle.game.specs.Questions.{any, reading}
+use Rattle.game.specs.Position.{form}
+use Rattle.game.specs.RefusalLaws.{file-numbers, position-numbers}
+use Rattle.game.specs.Win.{is_abelard}
+use Rattle.game.specs.ListLaws.{test, clash}
+use Rattle.table.specs.Table.{Entry, entries_of, table_form}
+use Rattle.table.specs.FormLaws.{accepted, table-numbers}
+use Rattle.judge.specs.Worth.{automaton, base_weight, step_worth, worths}
+use Rattle.judge.proofs.Within.{exact, most-of}
+use Rattle.judge.proofs.Range.{within-range}
+use Rattle.judge.proofs.Advice.{head-within, within-head}
+use Rattle.judge.proofs.Accepted.{AllInForm, weights}
+use Rattle.judge.specs.Verdict.{Verdict, target, eloise, abelard, to_move, verdict_of, verdict_over, verdict, verdict_of_bytes, judging_game, judging}
+use Rattle.judge.specs.PositionLaws.{in_bytes}
+use Rattle.judge.specs.Judged.{judged}
+use Rattle.judge.specs.declared.verdict.Verdict.{Verdict as Answered}
+use Rattle.judge.specs.declared.verdict.Verdict.TheVariants.{Lost, Target, Eloise, Abelard, Refused}
+use Rattle.judge.specs.Most.{most_bound, bound_in}
+
+-- a bound on a stack of h letters is at most h × (2^R − 1)
+bound-most : (g : PushdownGame) (table : List Entry) → AllInForm g table → (p a : ℕ) (rest : List ℕ) (b : ℕ)
+    → step_worth (automaton g table) (worths (automaton g table) rest) p a ≡ some b → b ≤ suc (length rest) * base_weight max_rounds
+bound-most g table forms p a rest b e =
+    let A = automaton g table in
+    let k = base_weight max_rounds in
+    let run = within-range A k (weights g table forms) (a ∷ rest) b p (head-within A a rest p b (exact e)) in
+    most-of e (within-head A a rest p (suc (length rest) * k) run)
+
+bounded : (abelards : Bool) (field : ℕ) (rule x : Option ℕ) (k : ℕ) → ((b : ℕ) → x ≡ some b → b ≤ k) → bound_in (verdict_of abelards field rule x) ≤ k
+unfolding verdict_of to_move bound_in
+bounded abelards field rule none k h = omega arith
+bounded abelards field rule (some b) k h = by (test (eqb b 0)) abelards
+  where
+    by : (eqb b 0 ≡ true) ⊎ (eqb b 0 ≡ false) → (o : Bool) → bound_in (cond (eqb b 0) target (to_move o rule b)) ≤ k
+    by (inl t) o = rw t (omega arith)
+    by (inr t) true = rw t (h b refl)
+    by (inr t) false = rw t (h b refl)
+
+-- the same of a verdict, at any height
+pub verdict-most : (g : PushdownGame) (table : List Entry) → AllInForm g table → (p : ℕ) (stack : List ℕ)
+    → bound_in (verdict g table p stack) ≤ length stack * base_weight max_rounds
+unfolding verdict verdict_over bound_in
+verdict-most g table forms p [] = omega arith
+verdict-most g table forms p (a ∷ rest) = bounded (is_abelard g p) _ _ _ (suc (length rest) * base_weight max_rounds) (bound-most g table forms p a rest)
+
+bytes_most : (g : PushdownGame) (table : List Entry) → AllInForm g table → (position : List ℕ) → length position ≤ suc max_stack
+    → bound_in (verdict_of_bytes g table position) ≤ most_bound
+unfolding verdict_of_bytes bound_in base_weight
+bytes_most g table forms [] short = omega arith
+bytes_most g table forms (p ∷ stack) short =
+    let few : length stack ≤ max_stack = omega arith in
+    le_trans (verdict-most g table forms p stack) (mul-le-mul_right (base_weight max_rounds) few)
+
+module _ (file words position : List ℕ) where
+  -- No judged bound is above 256 × (2^R − 1), whatever the file, the table and the position,
+  pub judged-most : (v : Verdict) → judging file words position ≡ done v → bound_in v ≤ most_bound
+  unfolding judging judging_game
+  judged-most v e =
+      let r = after-done (reading file) (λ g. judging_game g words position) e in
+      let g = r.0 in
+      let t = after-done (table_form g words) _ r.2 in
+      let f = after-done (form g.control g.letters position) _ t.2 in
+      rw (← done-same f.2)
+      (bytes_most g (entries_of words) (accepted g words t.1) position (in_bytes g.control g.letters position f.1).few)
+
+  -- so that none reaches 2^48.
+  pub judged-below : (v : Verdict) → judging file words position ≡ done v → bound_in v < 2 ^ 48
+  judged-below v e = omega (arith, judged-most v e)
+
+  -- Judging refuses by one of the questions before the verdict: 1 to 9 and 19, 13, 14.
+  pub judge-numbers : RefusedBy judge_numbers (judging file words position)
+  unfolding judging judging_game
+  judge-numbers =
+      by_after judge_numbers (reading file) _ (by_front file_numbers _ (reading file) (file-numbers file))
+      (λ g.
+      by_after judge_numbers (table_form g words) _ (by-back file_numbers _ _ (by_front table_numbers position_numbers _ (table-numbers g words)))
+      (λ u.
+      by_after judge_numbers (form g.control g.letters position) _
+      (by-back file_numbers _ _ (by-back table_numbers position_numbers _ (position-numbers g.control g.letters position)))
+      (λ v. by-none judge_numbers (verdict_of_bytes g (entries_of words) position))))
+
+-- the bound that an answer of `judge` has; 0 where it has none
+unfoldable pub returned_bound : Answered → ℕ
+returned_bound (Lost rule) = 0
+returned_bound Target = 0
+returned_bound (Eloise rule b) = b
+returned_bound (Abelard b) = b
+returned_bound (Refused question place) = 0
+
+-- Of whatever keeps the promise of `judge`:
+module _ (file words position : List ℕ) where
+  -- the bound that it returns is at most 256 × (2^R − 1), and below 2^48,
+  pub returned-most : (r : Answered) → judged r ≡ judging file words position → returned_bound r ≤ most_bound
+  unfolding returned_bound bound_in
+  returned-most (Lost rule) e = omega arith
+  returned-most Target e = omega arith
+  returned-most (Eloise rule b) e = judged-most file words position (eloise rule b) (sym e)
+  returned-most (Abelard b) e = judged-most file words position (abelard b) (sym e)
+  returned-most (Refused question place) e = omega arith
+
+  pub returned-below : (r : Answered) → judged r ≡ judging file words position → returned_bound r < 2 ^ 48
+  returned-below r e = omega (arith, returned-most r e)
+
+  -- and it refuses by 1 to 9, 19, 13 or 14,
+  pub returned-numbers : (question place : ℕ) → judged (Refused question place) ≡ judging file words position
+      → is_one_of question judge_numbers ≡ true
+  returned-numbers question place e = judge-numbers file words position question place (sym e)
+
+  -- never by 15.
+  pub no-fifteen : (place : ℕ) → judged (Refused 15 place) ≡ judging file words position → ⊥
+  unfolding any
+  no-fifteen place e = clash (returned-numbers 15 place e) refl
