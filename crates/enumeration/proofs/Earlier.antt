@@ -21,7 +21,7 @@ use Rattle.judge.specs.Worth.{entry_of_head}
 use Rattle.rounds.specs.Rounds.{entry_at}
 use Rattle.rounds.specs.Enumeration.{rest_runs}
 use Rattle.rounds.specs.Growing.{Growing}
-use Rattle.rounds.specs.GrowingLaws.{held-passed}
+use Rattle.rounds.proofs.GrowingLaws.{held-passed}
 use Rattle.rounds.specs.InsertLaws.{no_entry}
 use Rattle.rounds.specs.Scans.{rules_between}
 use Rattle.enumeration.specs.Jobs.{Entered, Finished, sub_runs}

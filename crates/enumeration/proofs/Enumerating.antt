@@ -10,7 +10,7 @@ use Rattle.game.specs.Game.{PushdownGame}
 use Rattle.table.specs.Table.{Entry, entry_of}
 use Rattle.rounds.specs.Enumeration.{rest_runs}
 use Rattle.rounds.specs.Growing.{Growing, grow, growing}
-use Rattle.rounds.specs.GrowingLaws.{grown-held}
+use Rattle.rounds.proofs.GrowingLaws.{grown-held}
 use Rattle.rounds.specs.Filled.{Small, Filled}
 use Rattle.table.specs.WordLaws.{word-entry}
 use Rattle.enumeration.specs.Memo.{line_at}

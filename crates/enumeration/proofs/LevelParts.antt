@@ -29,7 +29,7 @@ use Rattle.rounds.specs.Scans.{Highest}
 use Rattle.enumeration.specs.Jobs.{Whole, Entered, sub_runs, sub_entries, tag_of}
 use Rattle.enumeration.specs.JobLaws.{highest-first, pass_of}
 use Rattle.enumeration.specs.declared.runs.Job.{Job}
-use Rattle.rounds.specs.StoredRows.{entry-at}
+use Rattle.rounds.proofs.StoredRows.{entry-at}
 use Rattle.enumeration.proofs.Turns.{state-of}
 use Rattle.enumeration.proofs.Levels.{Level, gives, gives_at}
 

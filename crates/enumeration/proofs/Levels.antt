@@ -16,7 +16,8 @@ use Rattle.game.specs.Game.{PushdownGame}
 use Rattle.table.specs.Table.{Entry}
 use Rattle.rounds.specs.Rounds.{entry_at}
 use Rattle.rounds.specs.Growing.{Growing, growing}
-use Rattle.rounds.specs.GrowingLaws.{HeldBy, growing-append, held-passed, all_stay, grown-held}
+use Rattle.rounds.specs.GrowingLaws.{HeldBy}
+use Rattle.rounds.proofs.GrowingLaws.{growing-append, held-passed, all_stay, grown-held}
 use Rattle.rounds.specs.InsertLaws.{no_entry}
 use Rattle.enumeration.specs.AlikeLaws.{full-any}
 use Rattle.enumeration.specs.JobLaws.{pass_of, from_place, from_end}

@@ -10,7 +10,7 @@ use lib.ListN.{length, get_or}
 use lib.Pow.{pow-lt, pow_pos}
 use lib.Dec.{ltb}
 use borrow.Author.Tests.{ltb-true, ltb-false}
-use Rattle.judge.specs.Target.{zero-or-more}
+use Rattle.judge.proofs.Target.{zero-or-more}
 use Rattle.game.specs.Sets.{union}
 use Rattle.game.specs.SetLaws.{has_above, member_of, right-union, none_has}
 use Rattle.game.specs.ListLaws.{test, clash}

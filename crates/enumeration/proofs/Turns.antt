@@ -23,7 +23,8 @@ use Rattle.rounds.specs.EndsLaws.{in_members}
 use Rattle.rounds.specs.Enumeration.{rest_runs}
 use Rattle.rounds.specs.Growing.{Growing, grow, growing}
 use Rattle.rounds.specs.Filled.{Filled, Small}
-use Rattle.rounds.specs.InsertLaws.{no_entry, get_d-in}
+use Rattle.rounds.specs.InsertLaws.{no_entry}
+use Rattle.rounds.proofs.InsertLaws.{get_d-in}
 use Rattle.enumeration.specs.Memo.{line_at}
 use Rattle.enumeration.specs.Places.{PlacedHead, Placing, Blocked}
 use Rattle.enumeration.specs.Jobs.{Late, Whole, Entered, Finished, sub_runs, begin_runs, tag_of}
@@ -38,7 +39,7 @@ use Rattle.enumeration.specs.declared.runs.Job.{Job}
 use Rattle.enumeration.proofs.Parts.{shifted_one, smaller, union-some, whole}
 use Rattle.enumeration.proofs.Blocking.{no-runs}
 use Rattle.enumeration.proofs.Enumerating.{unchanged, named, noted, entry-small, added}
-use Rattle.rounds.specs.StoredRows.{entry-at}
+use Rattle.rounds.proofs.StoredRows.{entry-at}
 
 -- a set without its highest state, as the code takes the rest
 pub rest-is : (left q : ℕ) → Highest left q → left % (1 * 2 ^ q % 4294967296) ≡ left % 2 ^ q

@@ -7,11 +7,13 @@ use Rattle.game.specs.ListLaws.{◌∈◌, test, clash, map-in, in_map}
 use Rattle.table.specs.Table.{Entry, key, key_of}
 use Rattle.table.specs.Pairwise.{Pairwise, Ascending}
 use Rattle.rounds.specs.Rounds.{adding, entry_at}
-use Rattle.rounds.specs.AddLaws.{LowFirst, Added, adding-old, adding-there, adding-ascending, adding-in, same-list}
-use Rattle.rounds.specs.Growing.{Growing, grow, growing, grown, grow-full, full-stays, fully, partly}
+use Rattle.rounds.specs.AddLaws.{LowFirst, Added}
+use Rattle.rounds.proofs.AddLaws.{adding-old, adding-there, adding-ascending, adding-in, same-list}
+use Rattle.rounds.specs.Growing.{Growing, grow, growing, fully, partly}
+use Rattle.rounds.proofs.Growing.{grown, grow-full, full-stays}
 use Rattle.rounds.specs.GrowingLaws.{HeldBy}
 use Rattle.rounds.specs.Filled.{Filled}
-use Rattle.rounds.specs.StoredRows.{long_of}
+use Rattle.rounds.proofs.StoredRows.{long_of}
 
 as-full : (s : Growing) → s.full ≡ true → s ≡ fully s.entries
 as-full s t i = record { entries = s.entries; full = t i }

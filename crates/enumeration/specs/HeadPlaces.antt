@@ -11,8 +11,9 @@ use Rattle.table.specs.Rows.{Placed}
 use Rattle.table.specs.PlaceLaws.{key-sum, key-head}
 use Rattle.judge.specs.Worth.{entry_of_head}
 use Rattle.rounds.specs.Filled.{Stored}
-use Rattle.rounds.specs.InsertLaws.{no_entry, get_d-in}
-use Rattle.rounds.specs.StoredRows.{key-is, rows-ascend}
+use Rattle.rounds.specs.InsertLaws.{no_entry}
+use Rattle.rounds.proofs.InsertLaws.{get_d-in}
+use Rattle.rounds.proofs.StoredRows.{key-is, rows-ascend}
 
 -- the key of an entry of a head
 of-head : (q a : ℕ) (e : Entry) → entry_of_head q a e ≡ true → key_of e ≡ key q a e.set

@@ -11,7 +11,7 @@ use Rattle.judge.specs.Worth.{entry_of_head}
 use Rattle.rounds.specs.Rounds.{members, sets_of}
 use Rattle.rounds.specs.Enumeration.{rest_runs, state_runs}
 use Rattle.rounds.specs.Growing.{Growing, growing}
-use Rattle.rounds.specs.GrowingLaws.{growing-append}
+use Rattle.rounds.proofs.GrowingLaws.{growing-append}
 use Rattle.rounds.specs.MemberLaws.{members-none, members-highest}
 use Rattle.rounds.specs.Scans.{rules_between}
 use Rattle.enumeration.specs.Jobs.{sub_runs, tag_of}

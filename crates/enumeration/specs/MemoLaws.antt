@@ -5,7 +5,8 @@ use Rattle.game.specs.Game.{PushdownGame}
 use Rattle.game.specs.GoodGame.{Ranged}
 use Rattle.table.specs.Table.{Entry}
 use Rattle.rounds.specs.Growing.{Growing, growing}
-use Rattle.rounds.specs.GrowingLaws.{HeldBy, held-passed, all_stay}
+use Rattle.rounds.specs.GrowingLaws.{HeldBy}
+use Rattle.rounds.proofs.GrowingLaws.{held-passed, all_stay}
 use Rattle.enumeration.specs.Memo.{Line, line_at}
 use Rattle.enumeration.specs.Jobs.{Memoed, sub_entries, tag_of}
 use Rattle.enumeration.specs.JobLaws.{tag-of}

@@ -20,11 +20,13 @@ use Rattle.rounds.specs.Rounds.{members, sets_of}
 use Rattle.rounds.specs.EndsLaws.{members-in, sets_of-in, in-sets_of}
 use Rattle.rounds.specs.Enumeration.{rest_runs, state_runs, writes-none, writes_one, writes-two}
 use Rattle.rounds.specs.Growing.{Growing, grow, growing}
-use Rattle.rounds.specs.GrowingLaws.{HeldBy, all_stay}
+use Rattle.rounds.specs.GrowingLaws.{HeldBy}
+use Rattle.rounds.proofs.GrowingLaws.{all_stay}
 use Rattle.rounds.specs.Filled.{Stored}
-use Rattle.rounds.specs.InsertLaws.{no_entry, get_d-in}
+use Rattle.rounds.specs.InsertLaws.{no_entry}
+use Rattle.rounds.proofs.InsertLaws.{get_d-in}
 use Rattle.rounds.specs.Scans.{rules_between}
-use Rattle.rounds.specs.StoredRows.{entry-at}
+use Rattle.rounds.proofs.StoredRows.{entry-at}
 use Rattle.enumeration.specs.Jobs.{sub_runs}
 use Rattle.enumeration.specs.JobLaws.{pass_of, highest-first}
 use Rattle.enumeration.specs.NextLaws.{begin_of}

@@ -7,7 +7,7 @@ use Rattle.game.specs.Stored.{rule_at}
 use Rattle.game.specs.StoredLaws.{no_rule}
 use Rattle.table.specs.Table.{Entry}
 use Rattle.rounds.specs.Growing.{Growing}
-use Rattle.rounds.specs.InsertLaws.{get_d-in}
+use Rattle.rounds.proofs.InsertLaws.{get_d-in}
 use Rattle.rounds.specs.ScanLaws.{rule-at}
 use Rattle.enumeration.specs.Jobs.{Entered}
 use Rattle.enumeration.specs.Places.{PlacedHead, Placing}

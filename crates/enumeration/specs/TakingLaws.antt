@@ -10,7 +10,8 @@ use Rattle.table.specs.Rows.{Placed}
 use Rattle.judge.specs.Worth.{entry_of_head}
 use Rattle.rounds.specs.Rounds.{entry_at}
 use Rattle.rounds.specs.Growing.{Growing, growing}
-use Rattle.rounds.specs.GrowingLaws.{HeldBy, all_stay}
+use Rattle.rounds.specs.GrowingLaws.{HeldBy}
+use Rattle.rounds.proofs.GrowingLaws.{all_stay}
 use Rattle.rounds.specs.InsertLaws.{no_entry}
 use Rattle.enumeration.specs.Jobs.{Entered, Finished}
 use Rattle.enumeration.specs.JobLaws.{grown-from, from_end}

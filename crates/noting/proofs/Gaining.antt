@@ -14,9 +14,10 @@ use Rattle.game.specs.GoodGame.{Good}
 use Rattle.table.specs.Table.{Entry, key_of}
 use Rattle.table.specs.Pairwise.{Ascending}
 use Rattle.rounds.specs.Rounds.{add, is_there, next_round}
-use Rattle.rounds.specs.AddLaws.{is_there-in, add-in, add-ascending, same_key}
-use Rattle.rounds.specs.RoundLaws.{AllRanged, next-ascending, key-of}
-use Rattle.rounds.specs.Growing.{absent-longer, not_there}
+use Rattle.rounds.proofs.AddLaws.{is_there-in, add-in, add-ascending, same_key}
+use Rattle.rounds.specs.RoundLaws.{AllRanged}
+use Rattle.rounds.proofs.RoundLaws.{next-ascending, key-of}
+use Rattle.rounds.proofs.Growing.{absent-longer, not_there}
 use Rattle.unions.specs.Pool.{Head}
 use Rattle.noting.specs.Taking.{Taking, sub-length, head-entry, entry-head}
 use Rattle.noting.specs.Offers.{Given, Spared, Gave}

@@ -19,10 +19,13 @@ use Rattle.game.specs.GoodGame.{Good}
 use Rattle.table.specs.Table.{Entry, entry_of, first_word, key_of}
 use Rattle.table.specs.Pairwise.{Ascending}
 use Rattle.rounds.specs.Rounds.{add, next_round, entry_at}
-use Rattle.rounds.specs.AddLaws.{Absent, add-old, add-in, add-there}
+use Rattle.rounds.specs.AddLaws.{Absent}
+use Rattle.rounds.proofs.AddLaws.{add-old, add-in, add-there}
 use Rattle.rounds.specs.EndsRange.{Proper}
-use Rattle.rounds.specs.Candidates.{Gives, parts, gives-proper}
-use Rattle.rounds.specs.RoundLaws.{Born, AllRanged, next-ranged}
+use Rattle.rounds.specs.Candidates.{Gives}
+use Rattle.rounds.proofs.Candidates.{parts, gives-proper}
+use Rattle.rounds.specs.RoundLaws.{Born, AllRanged}
+use Rattle.rounds.proofs.RoundLaws.{next-ranged}
 use Rattle.unions.specs.Expand.{expand, Elements}
 use Rattle.unions.specs.ExpandLaws.{expand-same}
 use Rattle.unions.specs.Pool.{Head}

@@ -24,11 +24,13 @@ use Rattle.table.specs.WordLaws.{word-entry}
 use Rattle.table.specs.Pairwise.{Ascending, Pairwise}
 use Rattle.family.specs.Family.{holds, Put}
 use Rattle.rounds.specs.Rounds.{add, adding, target_entry, round_zero}
-use Rattle.rounds.specs.AddLaws.{Absent, add-in, add-ascending}
-use Rattle.rounds.specs.Growing.{absent-longer}
-use Rattle.rounds.specs.Candidates.{parts}
-use Rattle.rounds.specs.InsertLaws.{get_d-in, in-get_d}
-use Rattle.rounds.specs.RoundLaws.{round_table, zero_is}
+use Rattle.rounds.specs.AddLaws.{Absent}
+use Rattle.rounds.proofs.AddLaws.{add-in, add-ascending}
+use Rattle.rounds.proofs.Growing.{absent-longer}
+use Rattle.rounds.proofs.Candidates.{parts}
+use Rattle.rounds.proofs.InsertLaws.{get_d-in, in-get_d}
+use Rattle.rounds.specs.RoundLaws.{round_table}
+use Rattle.rounds.proofs.RoundLaws.{zero_is}
 use Rattle.unions.specs.Expand.{expand, Within}
 use Rattle.unions.specs.ExpandLaws.{expand-same}
 use Rattle.unions.specs.ElementsOf.{ElementsOf, HeldTargets}

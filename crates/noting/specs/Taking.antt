@@ -9,11 +9,13 @@ use Rattle.table.specs.Table.{Entry, entry_of, key_of}
 use Rattle.table.specs.Pairwise.{Ascending, Pairwise}
 use Rattle.judge.specs.Worth.{entry_of_head}
 use Rattle.rounds.specs.Rounds.{add, next_round, sets_of}
-use Rattle.rounds.specs.AddLaws.{Absent, add-old, add-there, add-in, add-ascending, same_key, same-list}
+use Rattle.rounds.specs.AddLaws.{Absent}
+use Rattle.rounds.proofs.AddLaws.{add-old, add-there, add-in, add-ascending, same_key, same-list}
 use Rattle.rounds.specs.Candidates.{Gives}
 use Rattle.rounds.specs.EndsLaws.{sets_of-in, in-sets_of}
-use Rattle.rounds.specs.RoundLaws.{Born, AllRanged, next-is, next-ascending, key-of}
-use Rattle.rounds.specs.Growing.{absent-longer}
+use Rattle.rounds.specs.RoundLaws.{Born, AllRanged}
+use Rattle.rounds.proofs.RoundLaws.{next-is, next-ascending, key-of}
+use Rattle.rounds.proofs.Growing.{absent-longer}
 use Rattle.unions.specs.Expand.{expand}
 use Rattle.unions.specs.Pool.{Head}
 use Rattle.unions.specs.Log.{Log, noted}

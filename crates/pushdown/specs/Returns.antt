@@ -11,13 +11,15 @@ use Rattle.game.specs.Questions.{any, reading}
 use Rattle.game.specs.ListLaws.{clash, of_either, right_or}
 use Rattle.game.specs.RefusalLaws.{file-numbers}
 use Rattle.judge.specs.Verdict.{Verdict, lost, target, eloise, abelard, judging}
-use Rattle.judge.specs.LostField.{SaysLost, judged-lost}
-use Rattle.judge.specs.Most.{most_bound, bound_in, judged-most, judge-numbers}
+use Rattle.judge.specs.LostField.{SaysLost}
+use Rattle.judge.proofs.LostField.{judged-lost}
+use Rattle.judge.specs.Most.{most_bound, bound_in}
+use Rattle.judge.proofs.Most.{judged-most, judge-numbers}
 use Rattle.session.specs.Session.{move}
 use Rattle.session.specs.declared.playing.Session.{Session}
 use Rattle.session.specs.MoveLaws.{move-numbers}
 use Rattle.rounds.specs.Solving.{Solved, solving_words}
-use Rattle.rounds.specs.SolvingLaws.{solve-numbers}
+use Rattle.rounds.proofs.SolvingLaws.{solve-numbers}
 use Rattle.solver.specs.Leaving.{leaving, solve_call}
 use Rattle.pushdown.specs.Interface.{
   wrong_length,

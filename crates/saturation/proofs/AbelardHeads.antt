@@ -24,7 +24,8 @@ use Rattle.family.specs.Masks.{Raising}
 use Rattle.table.specs.Pairwise.{Ascending}
 use Rattle.rounds.specs.RoundLaws.{AllRanged}
 use Rattle.rounds.specs.Rounds.{members, sets_of, unions, ends, rule_ends}
-use Rattle.rounds.specs.Candidates.{abelards, rule-in}
+use Rattle.rounds.specs.Candidates.{abelards}
+use Rattle.rounds.proofs.Candidates.{rule-in}
 use Rattle.rounds.specs.Scans.{NextRule, rules_between}
 use Rattle.rounds.specs.ScanLaws.{next-is, none-next}
 use Rattle.unions.specs.Expand.{expand, Elements, Within, AllWithin}

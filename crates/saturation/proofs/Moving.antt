@@ -18,7 +18,7 @@ use Rattle.game.specs.ListLaws.{◌∈◌, test, flat_map-in, in-flat_map}
 use Rattle.table.specs.Table.{Entry}
 use Rattle.rounds.specs.Rounds.{sets_of, ends}
 use Rattle.rounds.specs.EndsLaws.{sets_of-in}
-use Rattle.judge.specs.Target.{zero-or-more}
+use Rattle.judge.proofs.Target.{zero-or-more}
 use Rattle.rounds.specs.ScanLaws.{rule-at}
 use Rattle.family.specs.Family.{holds}
 use Rattle.unions.specs.Expand.{AllWithin}

@@ -14,8 +14,10 @@ use Rattle.game.specs.ListLaws.{◌∈◌}
 use Rattle.table.specs.Table.{Entry}
 use Rattle.family.specs.Family.{holds, Elsewhere}
 use Rattle.rounds.specs.Rounds.{next_round}
-use Rattle.rounds.specs.RoundLaws.{AllRanged, next-is, next-ascending, next-ranged}
-use Rattle.rounds.specs.Candidates.{Gives, eloises, abelards, rule-in}
+use Rattle.rounds.specs.RoundLaws.{AllRanged}
+use Rattle.rounds.proofs.RoundLaws.{next-is, next-ascending, next-ranged}
+use Rattle.rounds.specs.Candidates.{Gives, eloises, abelards}
+use Rattle.rounds.proofs.Candidates.{rule-in}
 use Rattle.unions.specs.Expand.{AllWithin}
 use Rattle.unions.specs.Pool.{Head, Kept}
 use Rattle.unions.specs.PoolLaws.{Passing, next_row}

@@ -20,7 +20,8 @@ use Rattle.family.specs.Family.{holds, Joined}
 use Rattle.table.specs.Pairwise.{Ascending}
 use Rattle.rounds.specs.RoundLaws.{AllRanged}
 use Rattle.rounds.specs.Rounds.{ends, sets_of, rule_ends}
-use Rattle.rounds.specs.Candidates.{Gives, eloises, abelards, rule-in}
+use Rattle.rounds.specs.Candidates.{Gives, eloises, abelards}
+use Rattle.rounds.proofs.Candidates.{rule-in}
 use Rattle.rounds.specs.ScanLaws.{rule-at}
 use Rattle.unions.specs.Expand.{expand, Within}
 use Rattle.unions.specs.Pool.{Is, Grew, Head, Pool, Layout, HeadsHold}

@@ -10,7 +10,7 @@ use Rattle.game.specs.StoredLaws.{no_rule}
 use Rattle.game.specs.ListLaws.{◌∈◌, test, conj, in-filter, flat_map-in}
 use Rattle.table.specs.Table.{Entry}
 use Rattle.rounds.specs.Rounds.{sets_of, ends}
-use Rattle.rounds.specs.InsertLaws.{get_d-in, in-get_d}
+use Rattle.rounds.proofs.InsertLaws.{get_d-in, in-get_d}
 use Rattle.unions.specs.Expand.{expand, Elements, Within, AllWithin}
 use Rattle.unions.specs.ExpandLaws.{expand-single}
 use Rattle.unions.specs.UnionSteps.{unions_of}

@@ -25,7 +25,7 @@ use Rattle.game.specs.declared.game.Answer.{Answer}
 use Rattle.game.specs.declared.game.Answer.TheVariants.{Done as AnswerDone, Refused as AnswerRefused}
 use Rattle.table.specs.Table.{length_in_form, entry_stride}
 use Rattle.rounds.specs.Solving.{Solved, solving_game, solving_words}
-use Rattle.rounds.specs.Solution.{in-entries}
+use Rattle.rounds.proofs.Solution.{in-entries}
 use Rattle.solver.specs.Leaving.{leaving, called, solve_call}
 use Rattle.solver.specs.Given.{Given, refused_as}
 use Rattle.solver.specs.declared.solving.Solution.{Solution}

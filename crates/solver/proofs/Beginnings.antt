@@ -22,8 +22,9 @@ use Rattle.family.specs.Family.{holds}
 use Rattle.family.specs.Masks.{Raising}
 use Rattle.rounds.specs.Rounds.{sets_of, round_zero}
 use Rattle.rounds.specs.EndsLaws.{sets_of-in}
-use Rattle.rounds.specs.InsertLaws.{get_d-in}
-use Rattle.rounds.specs.RoundLaws.{AllRanged, round_table, round-ranged}
+use Rattle.rounds.proofs.InsertLaws.{get_d-in}
+use Rattle.rounds.specs.RoundLaws.{AllRanged, round_table}
+use Rattle.rounds.proofs.RoundLaws.{round-ranged}
 use Rattle.rounds.specs.ScanLaws.{rule-at}
 use Rattle.table.specs.Pairwise.{Ascending}
 use Rattle.unions.specs.Expand.{expand}

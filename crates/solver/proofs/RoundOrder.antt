@@ -17,10 +17,11 @@ use Rattle.table.specs.Table.{Entry, table_words}
 use Rattle.table.specs.Pairwise.{Ascending}
 use Rattle.rounds.specs.Rounds.{round_zero, next_round, settled}
 use Rattle.rounds.specs.Solving.{fitting, rounds_from, solved_table, solving_game}
-use Rattle.rounds.specs.RoundLaws.{round_table, round-ranged}
+use Rattle.rounds.specs.RoundLaws.{round_table}
+use Rattle.rounds.proofs.RoundLaws.{round-ranged}
 use Rattle.rounds.specs.SolvingLaws.{Unsettled}
-use Rattle.rounds.specs.Reported.{latest-is}
-use Rattle.rounds.specs.GrownRound.{settled_same, unsettled-longer}
+use Rattle.rounds.proofs.Reported.{latest-is}
+use Rattle.rounds.proofs.GrownRound.{settled_same, unsettled-longer}
 use Rattle.solver.specs.Leaving.{leaving, called}
 use Rattle.solver.specs.Given.{solving_rounds}
 use Rattle.solver.specs.declared.solving.Solution.TheVariants.{Solved as SolvedWith}

@@ -17,11 +17,12 @@ use Rattle.table.specs.Table.{Entry}
 use Rattle.table.specs.Pairwise.{Ascending, Pairwise}
 use Rattle.rounds.specs.Rounds.{round_zero, target_entry, next_round, candidates, settled}
 use Rattle.rounds.specs.Solving.{Solved, fitting, rounds_from, solved_table, solving_game}
-use Rattle.rounds.specs.RoundLaws.{round_table, round-ranged}
+use Rattle.rounds.specs.RoundLaws.{round_table}
+use Rattle.rounds.proofs.RoundLaws.{round-ranged}
 use Rattle.rounds.specs.SolvingLaws.{Unsettled}
-use Rattle.rounds.specs.Reported.{latest-is}
+use Rattle.rounds.proofs.Reported.{latest-is}
 use Rattle.rounds.specs.Growing.{growing, partly}
-use Rattle.rounds.specs.GrownRound.{ended, same-settled, other-unsettled, over, within}
+use Rattle.rounds.proofs.GrownRound.{ended, same-settled, other-unsettled, over, within}
 use Rattle.rounds.specs.Filled.{Stored, Filled}
 use Rattle.solver.specs.Leaving.{leaving, called}
 use Rattle.solver.specs.Given.{solving_rounds}

@@ -20,7 +20,7 @@ use Rattle.table.specs.Pairwise.{Pairwise}
 use Rattle.rounds.specs.Rounds.{target_entry}
 use Rattle.rounds.specs.Growing.{Growing, grow, growing, partly}
 use Rattle.rounds.specs.Filled.{Small, Stored, Filled}
-use Rattle.rounds.specs.InsertLaws.{get_d-in}
+use Rattle.rounds.proofs.InsertLaws.{get_d-in}
 use Rattle.solver.specs.Given.{Given}
 
 -- the transitions before place t are added

@@ -23,9 +23,12 @@ use Rattle.judge.specs.declared.verdict.Verdict.TheVariants.{
 }
 use Rattle.rounds.specs.Solving.{Solved, solving_words}
 use Rattle.solver.specs.Leaving.{Call, Report, leaving, solve_call, called}
-use Rattle.rounds.specs.Demand2.{is_lost, Judges, demand-two}
-use Rattle.rounds.specs.Demand3.{Plays, Reports, demand-three}
-use Rattle.rounds.specs.StaysLost.{KeepsLost, ReportsLost, Contests, stays-lost}
+use Rattle.rounds.specs.Demand2.{is_lost, Judges}
+use Rattle.rounds.proofs.Demand2.{demand-two}
+use Rattle.rounds.specs.Demand3.{Plays, Reports}
+use Rattle.rounds.proofs.Demand3.{demand-three}
+use Rattle.rounds.specs.StaysLost.{KeepsLost, ReportsLost, Contests}
+use Rattle.rounds.proofs.StaysLost.{stays-lost}
 use Rattle.solver.specs.declared.solving.Solution.{Solution}
 use Rattle.solver.specs.declared.solving.Solution.TheVariants.{Solved as SolvedWith}
 

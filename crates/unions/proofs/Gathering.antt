@@ -16,7 +16,7 @@ use Rattle.game.specs.ListLaws.{test}
 use Rattle.game.specs.Game.{Rule, Transition, PushdownGame}
 use Rattle.game.specs.StoredLaws.{no_rule, no_transition, rule-stored, target-stored}
 use Rattle.game.specs.declared.game.Sizes.{Sizes}
-use Rattle.rounds.specs.InsertLaws.{get_d-in, in-get_d}
+use Rattle.rounds.proofs.InsertLaws.{get_d-in, in-get_d}
 use Rattle.unions.specs.ElementsOf.{Gathered, Reached, HeldTargets, target_set, pop_set, pop_set_at}
 
 pub gathered_none : (part : ℕ → ℕ) → Gathered part 0 0

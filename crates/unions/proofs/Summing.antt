@@ -14,7 +14,7 @@ use Rattle.game.specs.SetLaws.{none_has}
 use Rattle.game.specs.LowestLaws.{LowestOf, Cleared, cleared}
 use Rattle.game.specs.ListLaws.{test, clash, either, left_or, right_or}
 use Rattle.game.specs.Game.{PushdownGame}
-use Rattle.judge.specs.Target.{zero-or-more}
+use Rattle.judge.proofs.Target.{zero-or-more}
 use Rattle.table.specs.Table.{Entry}
 use Rattle.family.specs.Family.{holds, Joined}
 use Rattle.family.specs.Masks.{Raising}

@@ -16,7 +16,7 @@ use Rattle.game.specs.ListLaws.{◌∈◌, clash, both, conj, either, right_or, 
 use Rattle.game.specs.Game.{Rule, PushdownGame, word_of}
 use Rattle.game.specs.Stored.{rule_at}
 use Rattle.table.specs.Table.{Entry}
-use Rattle.judge.specs.Target.{zero-or-more}
+use Rattle.judge.proofs.Target.{zero-or-more}
 use Rattle.family.specs.Family.{holds, Put, Copied, TakenIn}
 use Rattle.game.specs.DigitLaws.{has-less}
 use Rattle.rounds.specs.Rounds.{sets_of, ends}

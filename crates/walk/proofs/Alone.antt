@@ -21,10 +21,11 @@ use Rattle.game.specs.ListLaws.{◌∈◌, map-in, in_map}
 use Rattle.table.specs.Table.{Entry, table_words, entry_words, entry_stride}
 use Rattle.table.specs.Pairwise.{Pairwise}
 use Rattle.rounds.specs.Rounds.{entry_at, adding, rule_ends}
-use Rattle.rounds.specs.AddLaws.{Added, adding-in, adding-there}
+use Rattle.rounds.specs.AddLaws.{Added}
+use Rattle.rounds.proofs.AddLaws.{adding-in, adding-there}
 use Rattle.rounds.specs.Enumeration.{rest_runs}
 use Rattle.rounds.specs.Growing.{growing, partly}
-use Rattle.rounds.specs.GrownRound.{ended}
+use Rattle.rounds.proofs.GrownRound.{ended}
 use Rattle.rounds.specs.Filled.{Stored, Filled}
 use Rattle.rounds.specs.Scans.{rules_between}
 use Rattle.rounds.specs.ScanLaws.{rule-at, next-is, none-next}

@@ -15,8 +15,9 @@ use Rattle.game.specs.ListLaws.{◌∈◌, test}
 use Rattle.table.specs.Table.{Entry}
 use Rattle.rounds.specs.Rounds.{rule_ends}
 use Rattle.rounds.specs.Filled.{Stored}
-use Rattle.rounds.specs.InsertLaws.{no_entry, get_d-in, in-get_d}
-use Rattle.rounds.specs.StoredRows.{entry-at}
+use Rattle.rounds.specs.InsertLaws.{no_entry}
+use Rattle.rounds.proofs.InsertLaws.{get_d-in, in-get_d}
+use Rattle.rounds.proofs.StoredRows.{entry-at}
 use Rattle.enumeration.specs.ListedLaws.{list-in, in_list}
 use Rattle.enumeration.specs.Lists.{start_of, stop_of, list_of, Listed, Appended, Kept, Zero, Bounded}
 

@@ -22,8 +22,9 @@ use Rattle.rounds.specs.Growing.{Growing, growing, partly}
 use Rattle.rounds.specs.GrowingLaws.{HeldBy}
 use Rattle.rounds.specs.Filled.{Stored, Filled}
 use Rattle.rounds.specs.Scans.{rules_between}
-use Rattle.rounds.specs.StoredRows.{entry-at}
-use Rattle.rounds.specs.InsertLaws.{no_entry, in-get_d}
+use Rattle.rounds.proofs.StoredRows.{entry-at}
+use Rattle.rounds.specs.InsertLaws.{no_entry}
+use Rattle.rounds.proofs.InsertLaws.{in-get_d}
 use Rattle.enumeration.specs.Jobs.{Stands, Entered, Finished, Whole}
 use Rattle.enumeration.specs.Lists.{Listed}
 use Rattle.enumeration.specs.AlikeLaws.{filled-alike}

@@ -30,7 +30,8 @@ use Rattle.rounds.specs.Scans.{NextRule, rules_between}
 use Rattle.enumeration.specs.Past.{older, Past, Settled, SettledFrom, Aging}
 use Rattle.enumeration.specs.PastLaws.{past_same, rest-aged}
 use Rattle.enumeration.specs.Places.{PlacedHead, PlacedTo, Placing}
-use Rattle.rounds.specs.InsertLaws.{no_entry, get_d-in}
+use Rattle.rounds.specs.InsertLaws.{no_entry}
+use Rattle.rounds.proofs.InsertLaws.{get_d-in}
 use Rattle.walk.specs.RoundJobs.{job_of, runs_of, run_runs, Blank, RunsStart, RunsEnd, First}
 use Rattle.enumeration.specs.AlikeLaws.{Alike}
 use Rattle.walk.specs.TurnLaws.{agrees, turn_gives, turns-in, turns-alike}

@@ -15,7 +15,7 @@ use Rattle.table.specs.Table.{Entry}
 use Rattle.rounds.specs.Rounds.{below, entry_at}
 use Rattle.rounds.specs.RoundLaws.{AllRanged}
 use Rattle.rounds.specs.Growing.{Growing, growing}
-use Rattle.rounds.specs.GrowingLaws.{growing-append, held-passed}
+use Rattle.rounds.proofs.GrowingLaws.{growing-append, held-passed}
 use Rattle.rounds.specs.Filled.{Stored, Filled}
 use Rattle.enumeration.specs.AlikeLaws.{full-any, over-full}
 use Rattle.enumeration.specs.Places.{Placing}

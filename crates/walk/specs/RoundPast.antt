@@ -13,11 +13,13 @@ use Rattle.game.specs.GoodGame.{Good}
 use Rattle.game.specs.ListLaws.{◌∈◌, in-any}
 use Rattle.table.specs.Table.{Entry, key_of}
 use Rattle.rounds.specs.Rounds.{add, adding, candidates, is_there, next_round}
-use Rattle.rounds.specs.AddLaws.{add-cases, adding-there}
-use Rattle.rounds.specs.Candidates.{candidates-in, in-candidates}
-use Rattle.rounds.specs.Growing.{partly, grow-there}
+use Rattle.rounds.proofs.AddLaws.{add-cases, adding-there}
+use Rattle.rounds.proofs.Candidates.{candidates-in, in-candidates}
+use Rattle.rounds.specs.Growing.{partly}
+use Rattle.rounds.proofs.Growing.{grow-there}
 use Rattle.rounds.specs.GrowingLaws.{HeldBy}
-use Rattle.rounds.specs.RoundLaws.{round_table, round-date, key-of}
+use Rattle.rounds.specs.RoundLaws.{round_table}
+use Rattle.rounds.proofs.RoundLaws.{round-date, key-of}
 use Rattle.enumeration.specs.Past.{older}
 
 module _ (f : Entry → Bool) where

@@ -20,9 +20,9 @@ use Rattle.table.specs.Pairwise.{Pairwise, pairwise-flat_map}
 use Rattle.rounds.specs.Rounds.{below, head_candidates, candidates}
 use Rattle.rounds.specs.EndsLaws.{below_in, in-below, below-pairwise}
 use Rattle.rounds.specs.EndsRange.{Proper}
-use Rattle.rounds.specs.Candidates.{candidates-in, head_in, low-head, low_first, apart, parts, gives-proper}
+use Rattle.rounds.proofs.Candidates.{candidates-in, head_in, low-head, low_first, apart, parts, gives-proper}
 use Rattle.rounds.specs.AddLaws.{LowFirst}
-use Rattle.rounds.specs.RoundLaws.{same-entry}
+use Rattle.rounds.proofs.RoundLaws.{same-entry}
 use Rattle.rounds.specs.ScanLaws.{head_at}
 use Rattle.enumeration.specs.AlikeLaws.{Alike}
 

@@ -13,7 +13,7 @@ use Rattle.enumeration.proofs.Earlier.{none-older, set-older, past-rest, past_on
 use Rattle.enumeration.proofs.Depth.{bounded-start, deep, bounded_at, bounded-before, bounded-after, falls-here, falls-before, falls-after}
 use Rattle.enumeration.proofs.Walking.{walk-starts, walk-over, walk_ends, walk-back, past-last, walk-takes, walk-opens}
 use Rattle.enumeration.proofs.Turns.{hit, notes, begins-none, begins-one, begins-two, blocked, no-rule, job_of, listed-first, other-state, other-letter, same_head, none-of-it, rest-is, set-of, set_below, set-adds, union-adds, joins, joins-some, starts-below, ends-below, below-small, word-adds, rest_below}
-use Rattle.rounds.specs.StoredRows.{long_of}
+use Rattle.rounds.proofs.StoredRows.{long_of}
 use lib.Pow.{pow_pos}
 use Prim.Native.Nat.{ℕ}
 use Rattle.enumeration.proofs.runs.+runs.Goals as goal

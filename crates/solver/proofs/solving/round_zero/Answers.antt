@@ -1,6 +1,6 @@
 use native.Mathlib.Omega.{arith}
 use mathlib.Core.Path.{refl, ◌∙◌}
-use Rattle.rounds.specs.StoredRows.{long_of}
+use Rattle.rounds.proofs.StoredRows.{long_of}
 use Rattle.solver.proofs.Targets.{adding-starts, adding-next, adding-ends, counted, many, state-small, letter-small, entry-small}
 use Rattle.solver.proofs.solving.round_zero.Goals as goal
 

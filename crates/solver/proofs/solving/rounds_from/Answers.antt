@@ -3,10 +3,11 @@ use native.Mathlib.Omega.{arith}
 use mathlib.Core.Path.{refl, sym, ap, subst, ◌∙◌}
 use mathlib.Core.List.{List}
 use lib.ListN.{length, length-replicate}
-use Rattle.rounds.specs.RoundLaws.{round_table, round-ranged}
+use Rattle.rounds.specs.RoundLaws.{round_table}
+use Rattle.rounds.proofs.RoundLaws.{round-ranged}
 use Rattle.rounds.specs.Filled.{Stored}
 use Rattle.solver.specs.declared.solving.Solution.TheVariants.{Solved as SolvedWith}
-use Rattle.rounds.specs.StoredRows.{long}
+use Rattle.rounds.proofs.StoredRows.{long}
 use Rattle.walk.specs.RoundPast.{round-past}
 use Rattle.solver.proofs.RoundsTaken.{taken-zero, leaving-at, cleared_at, turn-settled, turn_last, turn-full, turn-next}
 use Rattle.solver.proofs.solving.rounds_from.Goals as goal

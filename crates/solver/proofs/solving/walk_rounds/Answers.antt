@@ -2,7 +2,7 @@ use native.Mathlib.Omega.{arith}
 use mathlib.Core.Path.{refl, sym, ap, ◌∙◌}
 use Rattle.game.specs.Held.{safe}
 use Rattle.game.specs.declared.game.Sizes.{Sizes}
-use Rattle.rounds.specs.StoredRows.{long_of}
+use Rattle.rounds.proofs.StoredRows.{long_of}
 use Rattle.solver.proofs.RoundsTaken.{leaving-at, zero-full, zero-stored, zero-fits}
 use Rattle.solver.proofs.solving.walk_rounds.Goals as goal
 
