@@ -10,8 +10,8 @@ use lib.Seq.{get_or-set_same, get_or-set_other}
 use lib.Bits.{bit_and}
 use lib.Dec.{eqb, ltb}
 use borrow.Author.Tests.{eqb-true, eqb-false, ltb-true, ltb-false}
-use Rattle.game.specs.Sets.{has, union}
-use Rattle.game.specs.SetLaws.{none_has, single-has, left-union, right-union}
+use Rattle.game.specs.Sets.{has}
+use Rattle.game.specs.SetLaws.{none_has, single-has}
 use Rattle.game.specs.LowestLaws.{LowestOf, Cleared, cleared}
 use Rattle.game.specs.ListLaws.{test, clash, either, left_or, right_or}
 use Rattle.game.specs.Game.{PushdownGame}
@@ -21,7 +21,7 @@ use Rattle.family.specs.Family as family
 use Rattle.unions.specs.Expand.{expand}
 use Rattle.unions.specs.Pool.{Head, Layout, Kept, HeadsHold, HeadsGrew}
 use Rattle.unions.specs.PoolLaws.{apart}
-use Rattle.noting.specs.Signs.{NoNews, NoGains}
+use Rattle.noting.specs.Signs.{NoGains}
 use Rattle.noting.specs.Offers.{Adding}
 use Rattle.unions.specs.Finding.{Fresh}
 use Rattle.noting.specs.Marks.{Dead}

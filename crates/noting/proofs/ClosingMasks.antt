@@ -3,8 +3,8 @@ use Prim.Native.Nat.{ℕ, ◌+◌, ◌*◌, ◌-◌, ◌/◌, ◌^◌, ◌<◌, 
 use native.Mathlib.Omega.{arith}
 use native.Mathlib.Nat.{mul-le-mul_right, add-mul}
 use mathlib.Core.Path.{◌≡◌, refl, sym, ap, subst, ◌∙◌}
-use mathlib.Core.Logic.{◌⊎◌, inl, inr, ⊎_elim}
-use mathlib.Core.Bool.{Bool, true, false, not}
+use mathlib.Core.Logic.{inl, inr, ⊎_elim}
+use mathlib.Core.Bool.{true, false, not}
 use mathlib.Core.List.{List}
 use lib.ListN.{length, get_or, set, length-set}
 use lib.Seq.{get_or-set_same, get_or-set_other}
@@ -18,7 +18,7 @@ use Rattle.game.specs.LowestLaws as lowest
 use Rattle.game.specs.ListLaws.{test, clash, not-true, both}
 use Rattle.game.specs.Game.{PushdownGame}
 use Rattle.table.specs.Table.{Entry}
-use Rattle.family.specs.Family.{holds, Elsewhere, Joined, Copied, Cleared}
+use Rattle.family.specs.Family.{Elsewhere, Joined, Copied, Cleared}
 use Rattle.game.specs.DigitLaws.{has-less}
 use Rattle.unions.specs.Expand.{AllWithin}
 use Rattle.unions.specs.Pool.{Head, Layout, Kept, HeadsHold, HeadsGrew}
@@ -27,11 +27,11 @@ use Rattle.noting.specs.Signs.{NoNews, NoGains}
 use Rattle.unions.specs.Finding.{Fresh}
 use Rattle.noting.specs.Marks.{Dead}
 use Rattle.noting.specs.Offers.{Adding}
-use Rattle.noting.specs.Closing.{Ready, Includes, Still, Halfway}
+use Rattle.noting.specs.Closing.{Ready}
 use Rattle.noting.specs.ClosingRows.{Widened, Thinned, RowClosed, RowsClosed, RowsCleared}
 use Rattle.noting.specs.HeadNumbers.{same_head}
 use Rattle.noting.proofs.Signing.{join_more, join-in, join-few}
-use Rattle.noting.proofs.ClosingHeads.{Alike, halfway-as, halfway-thinned, halfway-starts, halfway-on, ready, touched, dead}
+use Rattle.noting.proofs.ClosingHeads.{halfway-as, halfway-thinned, halfway-starts, halfway-on, ready, touched, dead}
 
 pub widened_same : (fresh alive : List ℕ) → Widened fresh alive fresh alive
 widened_same fresh alive = record { news = refl; lives = refl; more = λ c k h. h; grown = λ c k h. h; few = λ h. h }

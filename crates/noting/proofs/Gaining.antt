@@ -1,17 +1,17 @@
 -- A head that was offered something is marked if more entries are noted than before: as many are the same ones.
-use Prim.Native.Nat.{ℕ, suc, ◌+◌, ◌*◌, ◌/◌, ◌<◌, ◌≤◌}
+use Prim.Native.Nat.{ℕ}
 use native.Mathlib.Omega.{arith}
-use mathlib.Core.Path.{◌≡◌, refl, sym, ap, subst, ◌∙◌}
-use mathlib.Core.Logic.{◌⊎◌, inl, inr, ⊎_elim}
+use mathlib.Core.Path.{◌≡◌, sym, subst}
+use mathlib.Core.Logic.{inl, inr, ⊎_elim}
 use mathlib.Core.Bool.{true, false}
 use mathlib.Core.List.Memᴰ
 use mathlib.Core.List.{List}
-use lib.ListN.{length, get_or}
+use lib.ListN.{get_or}
 use Rattle.game.specs.Sets.{has}
 use Rattle.game.specs.ListLaws.{◌∈◌, test}
 use Rattle.game.specs.Game.{PushdownGame}
 use Rattle.game.specs.GoodGame.{Good}
-use Rattle.table.specs.Table.{Entry, key_of}
+use Rattle.table.specs.Table.{Entry}
 use Rattle.table.specs.Pairwise.{Ascending}
 use Rattle.rounds.specs.Rounds.{add, is_there, next_round}
 use Rattle.rounds.proofs.AddLaws.{is_there-in, add-in, add-ascending, same_key}

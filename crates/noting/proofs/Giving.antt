@@ -1,10 +1,10 @@
 -- A family is offered to a head word by word: what is neither there nor noted is noted, and put into what the head was given.
-use Prim.Native.Nat.{ℕ, zero, suc, ◌+◌, ◌*◌, ◌-◌, ◌/◌, ◌%◌, ◌^◌, ◌<◌, ◌≤◌}
+use Prim.Native.Nat.{ℕ, ◌+◌, ◌*◌, ◌/◌, ◌%◌, ◌^◌, ◌<◌, ◌≤◌}
 use native.Mathlib.Omega.{arith}
 use native.Mathlib.Nat.{mod-lt}
 use mathlib.Core.Path.{◌≡◌, refl, sym, ap, subst, ◌∙◌}
 use mathlib.Core.Logic.{◌⊎◌, inl, inr, ⊎_elim, ◌↔◌}
-use mathlib.Core.Bool.{Bool, true, false, not, ◌&&◌, ◌||◌}
+use mathlib.Core.Bool.{true, false, not, ◌||◌}
 use mathlib.Core.List.{List}
 use lib.ListN.{length, get_or, set}
 use lib.Seq.{get_or-set_same, get_or-set_other, set-get_or}
@@ -13,21 +13,20 @@ use lib.Dec.{eqb, ltb}
 use borrow.Author.Tests.{eqb-true, eqb-false, ltb-true, ltb-false}
 use Rattle.game.specs.Sets.{has}
 use Rattle.game.specs.SetLaws.{none_has}
-use Rattle.game.specs.ListLaws.{◌∈◌, test, clash, not-true, both, conj, either, left_or, right_or, below_suc}
+use Rattle.game.specs.ListLaws.{test, clash, not-true, both, conj, either, left_or, right_or}
 use Rattle.game.specs.Game.{PushdownGame}
 use Rattle.game.specs.GoodGame.{Good}
 use Rattle.table.specs.Table.{Entry, first_word}
 use Rattle.table.specs.Pairwise.{Ascending}
 use Rattle.family.specs.Family.{holds}
 use Rattle.game.specs.DigitLaws.{has-less, has-or}
-use Rattle.rounds.specs.Rounds.{next_round}
 use Rattle.rounds.specs.RoundLaws.{AllRanged}
 use Rattle.unions.specs.Expand.{expand, Elements}
 use Rattle.unions.specs.ExpandLaws.{expand-same}
 use Rattle.unions.specs.Pool.{Head, Grew, Layout, HeadsHold}
 use Rattle.unions.specs.PoolLaws.{next_row}
 use Rattle.unions.specs.Ending.{OfWord}
-use Rattle.noting.specs.Taking.{Taking, heads-old, head-entry, entry-head}
+use Rattle.noting.specs.Taking.{Taking, heads-old}
 use Rattle.noting.specs.Offers.{Offer, More, Noting, Adding, Offered, Taken, Given}
 use Rattle.unions.specs.PlaceLaws.{holds-word}
 

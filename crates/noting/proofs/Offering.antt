@@ -22,7 +22,6 @@ use Rattle.rounds.specs.Rounds.{add, next_round, entry_at}
 use Rattle.rounds.specs.AddLaws.{Absent}
 use Rattle.rounds.proofs.AddLaws.{add-old, add-in, add-there}
 use Rattle.rounds.specs.EndsRange.{Proper}
-use Rattle.rounds.specs.Candidates.{Gives}
 use Rattle.rounds.proofs.Candidates.{parts, gives-proper}
 use Rattle.rounds.specs.RoundLaws.{Born, AllRanged}
 use Rattle.rounds.proofs.RoundLaws.{next-ranged}

@@ -1,5 +1,5 @@
 -- Which heads and rules something has happened to, as bits. A bit may be set without need; where it is clear, nothing has happened.
-use Rattle.std.specs.Prelude.{ℕ, ◌+◌, ◌*◌, ◌<◌, ◌≡◌, ◌⊎◌, Bool, true, false, List, length, get_or}
+use Rattle.std.specs.Prelude.{ℕ, ◌+◌, ◌*◌, ◌<◌, ◌≡◌, ◌⊎◌, Bool, true, false, List, get_or}
 use Rattle.game.specs.Sets.{has}
 use Rattle.game.specs.Game.{Rule, PushdownGame}
 use Rattle.game.specs.ListLaws.{◌∈◌}

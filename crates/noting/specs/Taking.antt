@@ -1,6 +1,6 @@
 -- A round as far as it is taken: entries are noted one after another, and at last they are those of the round.
-use Rattle.std.specs.Prelude.{ℕ, zero, suc, ◌+◌, ◌*◌, ◌^◌, ◌<◌, ◌≤◌, ◌≡◌, refl, ◌⊎◌, true, List, [], ◌∷◌, length, get_or, set, eqb}
-use Rattle.std.proofs.Common.{arith, sym, ap, subst, ◌∙◌, inl, inr, ⊎_elim, get_or-set_same, get_or-set_other, length-set, eq-eqb, eqb-true}
+use Rattle.std.specs.Prelude.{ℕ, suc, ◌+◌, ◌*◌, ◌^◌, ◌<◌, ◌≤◌, ◌≡◌, refl, List, [], ◌∷◌, length, get_or, set, eqb}
+use Rattle.std.proofs.Common.{arith, sym, ap, subst, ◌∙◌, inr, ⊎_elim, get_or-set_same, get_or-set_other, length-set, eq-eqb, eqb-true}
 use mathlib.Core.List.Memᴰ
 use Rattle.game.specs.ListLaws.{◌∈◌, below_suc, both, conj}
 use Rattle.game.specs.Game.{PushdownGame}
@@ -8,7 +8,7 @@ use Rattle.game.specs.GoodGame.{Good}
 use Rattle.table.specs.Table.{Entry, entry_of, key_of}
 use Rattle.table.specs.Pairwise.{Ascending, Pairwise}
 use Rattle.judge.specs.Worth.{entry_of_head}
-use Rattle.rounds.specs.Rounds.{add, next_round, sets_of}
+use Rattle.rounds.specs.Rounds.{add, next_round}
 use Rattle.rounds.specs.AddLaws.{Absent}
 use Rattle.rounds.proofs.AddLaws.{add-old, add-there, add-in, add-ascending, same_key, same-list}
 use Rattle.rounds.specs.Candidates.{Gives}

@@ -10,7 +10,7 @@ use lib.ListN.{length, get_or}
 use lib.Dec.{ltb}
 use borrow.Author.Tests.{ltb-true, ltb-false}
 use Rattle.game.specs.Sets.{has}
-use Rattle.game.specs.Game.{Rule, PushdownGame, filter, rules_of, word_of}
+use Rattle.game.specs.Game.{Rule, PushdownGame, filter, word_of}
 use Rattle.game.specs.GoodGame.{Good, GoodRule}
 use Rattle.game.specs.Stored.{rule_at}
 use Rattle.game.specs.Win.{is_abelard}

@@ -1,5 +1,5 @@
 -- What a round is taken from, what its areas must have room for, and what holds once some of the rules are taken.
-use Rattle.std.specs.Prelude.{ℕ, suc, ◌+◌, ◌*◌, ◌<◌, ◌≤◌, ◌≡◌, ◌⊎◌, true, List, ◌++◌, length, get_or}
+use Rattle.std.specs.Prelude.{ℕ, ◌+◌, ◌*◌, ◌<◌, ◌≤◌, ◌≡◌, ◌⊎◌, true, List, ◌++◌, length, get_or}
 use Rattle.game.specs.Game.{Rule, PushdownGame}
 use Rattle.game.specs.GoodGame.{Good}
 use Rattle.game.specs.Stored.{rule_bytes}

@@ -1,5 +1,5 @@
 -- The rules of a game by their numbers, and the ends of a rule's runs as sets of elements.
-use Rattle.std.specs.Prelude.{ℕ, zero, suc, ◌+◌, ◌*◌, ◌^◌, ◌<◌, ◌≡◌, refl, true, false, List, [], ◌∷◌, length, get_or, eqb}
+use Rattle.std.specs.Prelude.{ℕ, zero, suc, ◌+◌, ◌^◌, ◌<◌, ◌≡◌, refl, true, false, List, [], ◌∷◌, length, get_or, eqb}
 use Rattle.std.proofs.Common.{arith, sym, ap, subst, ◌∙◌, ⊎_elim, eq-eqb, eqb-true}
 use mathlib.Core.List.Memᴰ
 use Rattle.std.proofs.Math.Pow.{pow-lt}
@@ -11,7 +11,7 @@ use Rattle.game.specs.ListLaws.{◌∈◌, test, conj, in-filter, flat_map-in}
 use Rattle.table.specs.Table.{Entry}
 use Rattle.rounds.specs.Rounds.{sets_of, ends}
 use Rattle.rounds.proofs.InsertLaws.{get_d-in, in-get_d}
-use Rattle.unions.specs.Expand.{expand, Elements, Within, AllWithin}
+use Rattle.unions.specs.Expand.{Elements, Within, AllWithin}
 use Rattle.unions.specs.ExpandLaws.{expand-single}
 use Rattle.unions.specs.UnionSteps.{unions_of}
 use Rattle.unions.specs.PoolLaws.{head-within, union-within}

@@ -6,28 +6,25 @@ use lib.Pow.{pow-add, pow_mono}
 use Rattle.game.specs.Sets.{has}
 use Rattle.game.specs.SetLaws.{none_has}
 use mathlib.Core.Path.{◌≡◌, refl, sym, ap, subst, ◌∙◌}
-use mathlib.Core.Logic.{◌⊎◌, inl, inr, ⊎_elim}
-use mathlib.Core.Bool.{true, false}
+use mathlib.Core.Logic.{inl, ⊎_elim}
 use mathlib.Core.List.Memᴰ
-use mathlib.Core.List.{List, [], ◌++◌, map}
-use lib.ListN.{length, get_or, replicate, length-append, length-replicate, length-map}
+use mathlib.Core.List.{List, []}
+use lib.ListN.{length, get_or, replicate, length-append}
 use Rattle.game.specs.Game.{Rule, PushdownGame}
-use Rattle.game.specs.GoodGame.{Good, GoodRule}
-use Rattle.game.specs.Stored.{rule_at, rule_bytes, target_words, sizes_of}
+use Rattle.game.specs.GoodGame.{GoodRule}
+use Rattle.game.specs.Stored.{rule_at, rule_bytes, target_words}
 use Rattle.game.specs.StoredLaws.{no_rule, length-rule_bytes, length-target_words}
-use Rattle.game.specs.ListLaws.{◌∈◌, clash, below_suc}
+use Rattle.game.specs.ListLaws.{clash, below_suc}
 use Rattle.game.specs.declared.game.Sizes.{Sizes}
-use Rattle.table.specs.Table.{Entry}
 use Rattle.family.specs.Family.{holds}
 use Rattle.family.specs.Masks.{Raising}
-use Rattle.rounds.specs.Rounds.{sets_of, round_zero}
+use Rattle.rounds.specs.Rounds.{round_zero}
 use Rattle.rounds.specs.EndsLaws.{sets_of-in}
 use Rattle.rounds.proofs.InsertLaws.{get_d-in}
 use Rattle.rounds.specs.RoundLaws.{AllRanged, round_table}
 use Rattle.rounds.proofs.RoundLaws.{round-ranged}
 use Rattle.rounds.specs.ScanLaws.{rule-at}
 use Rattle.table.specs.Pairwise.{Ascending}
-use Rattle.unions.specs.Expand.{expand}
 use Rattle.unions.specs.Pool.{Head, Layout}
 use Rattle.unions.specs.PoolLaws.{next_row}
 use Rattle.unions.specs.Finding.{Fresh}

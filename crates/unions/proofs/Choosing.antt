@@ -1,26 +1,25 @@
 -- The sets of a word that are looked at, and of a head's family word by word.
-use Prim.Native.Nat.{ℕ, zero, suc, ◌+◌, ◌*◌, ◌-◌, ◌/◌, ◌%◌, ◌^◌, ◌<◌, ◌≤◌}
+use Prim.Native.Nat.{ℕ, zero, suc, ◌+◌, ◌*◌, ◌/◌, ◌%◌, ◌^◌, ◌<◌, ◌≤◌}
 use native.Mathlib.Omega.{arith}
 use native.Mathlib.Nat.{mul-zero, div-lt_iff_lt-mul, mod-lt, div-add-mod'}
 use mathlib.Core.Path.{◌≡◌, refl, sym, ap, subst, ◌∙◌}
 use mathlib.Core.Logic.{◌⊎◌, inl, inr, ⊎_elim, ◌↔◌}
-use mathlib.Core.Bool.{Bool, true, false, not, ◌&&◌, ◌||◌}
+use mathlib.Core.Bool.{true, false, not, ◌||◌}
 use mathlib.Core.List.{List}
 use lib.ListN.{length, get_or}
 use lib.Bits.{bit_and, bit_or, bit_xor}
-use lib.Dec.{eqb, ltb}
+use lib.Dec.{ltb}
 use borrow.Author.Tests.{ltb-true, ltb-false}
 use Rattle.game.specs.Sets.{has, union}
 use Rattle.game.specs.SetLaws.{none_has, single-has, has-single}
-use Rattle.game.specs.ListLaws.{test, clash, not-true, both, conj, either, left_or, right_or, below_suc}
+use Rattle.game.specs.ListLaws.{test, clash, not-true, both, conj, either, left_or, right_or}
 use Rattle.game.specs.Game.{PushdownGame}
 use Rattle.table.specs.Table.{Entry}
 use Rattle.family.specs.Family.{holds}
 use Rattle.game.specs.DigitLaws.{has-and, has-or, has-less}
 use Rattle.family.specs.Masks.{Raising}
-use Rattle.unions.specs.Expand.{expand}
 use Rattle.unions.specs.ExpandLaws.{same_test}
-use Rattle.unions.specs.Pool.{Is, Head, Union, Pool}
+use Rattle.unions.specs.Pool.{Is, Head, Pool}
 use Rattle.unions.specs.Ending.{Sum, OfWord, Choice, Picked, Sets}
 use Rattle.unions.specs.PlaceLaws.{holds-word}
 use Rattle.unions.proofs.Summing.{sum-none}

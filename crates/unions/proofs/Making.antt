@@ -3,7 +3,7 @@ use Prim.Native.Nat.{ℕ, suc, ◌+◌, ◌*◌, ◌-◌, ◌/◌, ◌%◌, ◌^
 use native.Mathlib.Omega.{arith}
 use native.Mathlib.Nat.{div-lt_iff_lt-mul, pow-suc, one-mul}
 use mathlib.Core.Path.{◌≡◌, refl, sym, ap, subst, ◌∙◌}
-use mathlib.Core.Logic.{◌⊎◌, ⊎_elim}
+use mathlib.Core.Logic.{⊎_elim}
 use mathlib.Core.Bool.{true, false}
 use mathlib.Core.List.{List}
 use lib.ListN.{length, get_or, set, replicate}
@@ -21,7 +21,6 @@ use Rattle.game.specs.Game.{PushdownGame}
 use Rattle.table.specs.Table.{Entry}
 use Rattle.family.specs.Family.{UnitesInto, Copied}
 use Rattle.family.specs.Masks.{Raising}
-use Rattle.unions.specs.UnionSteps.{Added}
 use Rattle.unions.specs.Pool.{Pool, Names, of-head, of-line, key_for, Fits}
 use Rattle.unions.specs.PoolLaws.{pool-more, pool-none, next_row}
 use Rattle.unions.specs.Finding.{Finding, Finds, Top, Kept}

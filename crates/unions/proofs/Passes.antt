@@ -1,11 +1,11 @@
 -- The elements of a set are taken from the highest down.
-use Prim.Native.Nat.{ℕ, zero, suc, ◌+◌, ◌*◌, ◌-◌, ◌/◌, ◌%◌, ◌^◌, ◌<◌, ◌≤◌}
+use Prim.Native.Nat.{ℕ, suc, ◌+◌, ◌*◌, ◌-◌, ◌/◌, ◌%◌, ◌^◌, ◌<◌, ◌≤◌}
 use native.Mathlib.Omega.{arith}
-use native.Mathlib.Nat.{div-lt_iff_lt-mul, mod-lt, mul-mod_left, mod-eq_of_lt, lt_of_lt_of_le, pow-suc}
-use mathlib.Core.Path.{◌≡◌, refl, sym, ap, subst, ◌∙◌}
-use mathlib.Core.Logic.{◌⊎◌, inl, inr, ⊎_elim}
+use native.Mathlib.Nat.{div-lt_iff_lt-mul, mod-lt, mul-mod_left, mod-eq_of_lt, pow-suc}
+use mathlib.Core.Path.{◌≡◌, sym, ap, subst, ◌∙◌}
+use mathlib.Core.Logic.{⊎_elim}
 use mathlib.Core.Bool.{true, false}
-use lib.Pow.{pow_pos, pow_mono, shl-shr, shr-shr, split, mod-mod-pow}
+use lib.Pow.{pow_pos, shl-shr, shr-shr, split, mod-mod-pow}
 use lib.Count.{count_leading_zeros, leading_top, count_trailing_zeros}
 use lib.Dec.{eqb, ltb}
 use borrow.Author.Tests.{eq-eqb, ltb-true, ltb-false}

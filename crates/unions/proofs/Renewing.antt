@@ -1,5 +1,5 @@
 -- A line brought up to a table, as the code does it.
-use Prim.Native.Nat.{ℕ, suc, ◌+◌, ◌*◌, ◌-◌, ◌/◌, ◌%◌, ◌^◌, ◌<◌, ◌≤◌, min}
+use Prim.Native.Nat.{ℕ, suc, ◌+◌, ◌*◌, ◌/◌, ◌%◌, ◌^◌, ◌<◌, ◌≤◌, min}
 use native.Mathlib.Omega.{arith}
 use native.Mathlib.Nat.{zero-div}
 use mathlib.Core.Path.{◌≡◌, refl, sym, ap, subst, ◌∙◌}
@@ -9,16 +9,16 @@ use mathlib.Core.List.{List}
 use lib.ListN.{length, get_or, replicate}
 use lib.Bits.{bit_and, and_shr, and_step, and_le_l}
 use lib.Arith.{digits_mod}
-use lib.Dec.{eqb, ltb}
+use lib.Dec.{ltb}
 use borrow.Author.Tests.{eqb-true, ltb-true, ltb-false, ne_eqb}
 use Rattle.game.specs.Sets.{has}
 use Rattle.game.specs.LowestLaws.{LowestOf}
 use Rattle.game.specs.ListLaws.{test, clash}
 use Rattle.game.specs.Game.{PushdownGame}
 use Rattle.table.specs.Table.{Entry}
-use Rattle.family.specs.Family.{holds, UnitesInto, TakenIn, Cleared, Elsewhere}
+use Rattle.family.specs.Family.{UnitesInto, TakenIn, Cleared}
 use Rattle.family.specs.Masks.{Raising}
-use Rattle.unions.specs.Pool.{Line, key_for, Names, of-head, of-line}
+use Rattle.unions.specs.Pool.{Line}
 use Rattle.unions.specs.PoolLaws.{Passing, element-set, line-skipped, line_taken, names-place, next_row}
 use Rattle.unions.specs.Finding.{Renewing, Renewable}
 use Rattle.unions.specs.PlaceLaws.{no-sets}

@@ -1,32 +1,32 @@
 -- What the ends of runs over the word of a rule have more, by the number of letters that it writes.
-use Prim.Native.Nat.{ℕ, zero, suc, ◌+◌, ◌*◌, ◌/◌, ◌%◌, ◌^◌, ◌<◌, ◌≤◌}
+use Prim.Native.Nat.{ℕ, ◌+◌, ◌*◌, ◌/◌, ◌%◌, ◌^◌, ◌<◌, ◌≤◌}
 use native.Mathlib.Omega.{arith}
 use mathlib.Core.Path.{◌≡◌, refl, sym, ap, subst, ◌∙◌}
-use mathlib.Core.Logic.{◌⊎◌, inl, inr, ⊎_elim}
-use mathlib.Core.Bool.{Bool, true, false, not, ◌&&◌, ◌||◌}
+use mathlib.Core.Logic.{inr, ⊎_elim}
+use mathlib.Core.Bool.{Bool, true, false, not, ◌&&◌}
 use mathlib.Core.List.Memᴰ
-use mathlib.Core.List.{List, [], ◌∷◌}
+use mathlib.Core.List.{List, []}
 use lib.ListN.{length, get_or}
 use lib.Bits.{bit_and, bit_xor, xor_lt, and_le_l}
 use lib.Dec.{eqb}
 use lib.Pow.{pow-lt}
 use borrow.Author.Tests.{eqb-true, eq-eqb}
 use Rattle.game.specs.Sets.{has, single}
-use Rattle.game.specs.ListLaws.{◌∈◌, clash, both, conj, either, right_or, test, flat_map-in, in-flat_map}
+use Rattle.game.specs.ListLaws.{clash, both, conj, either, right_or, test, flat_map-in, in-flat_map}
 use Rattle.game.specs.Game.{Rule, PushdownGame, word_of}
 use Rattle.game.specs.Stored.{rule_at}
 use Rattle.table.specs.Table.{Entry}
 use Rattle.judge.proofs.Target.{zero-or-more}
-use Rattle.family.specs.Family.{holds, Put, Copied, TakenIn}
+use Rattle.family.specs.Family.{holds, Put, Copied}
 use Rattle.game.specs.DigitLaws.{has-less}
 use Rattle.rounds.specs.Rounds.{sets_of, ends}
 use Rattle.rounds.specs.EndsLaws.{sets_of-in}
 use Rattle.unions.specs.Expand.{expand}
 use Rattle.unions.specs.ExpandLaws.{expand-single, expand-same}
 use Rattle.unions.specs.UnionSteps.{unions_of}
-use Rattle.unions.specs.Pool.{Is, Grew, Head, Pool, HeadsHold, Layout}
+use Rattle.unions.specs.Pool.{Grew, Head, Pool}
 use Rattle.unions.specs.JoinLaws.{grew-as}
-use Rattle.unions.specs.Ending.{Sum, Picked, Sets, Runs, Ends, Before, NoSets, Listed, Growth, RuleEnds, RuleBefore}
+use Rattle.unions.specs.Ending.{Sum, Picked, Sets, Ends, Before, NoSets, Listed, Growth, RuleEnds, RuleBefore}
 use Rattle.unions.specs.EndingLaws.{copied-grew, runs-grew}
 
 -- no transition is in an empty table

@@ -1,5 +1,5 @@
 -- The unions over several sets, put into one family.
-use Rattle.std.specs.Prelude.{ℕ, ◌+◌, ◌*◌, ◌/◌, ◌%◌, ◌^◌, ◌<◌, ◌≤◌, ◌≡◌, ◌⊎◌, true, false, List, [], length, get_or}
+use Rattle.std.specs.Prelude.{ℕ, ◌+◌, ◌*◌, ◌/◌, ◌^◌, ◌<◌, ◌≤◌, ◌≡◌, ◌⊎◌, true, false, List, [], length, get_or}
 use Rattle.game.specs.Sets.{has, union}
 use Rattle.game.specs.Game.{Rule, PushdownGame, word_of}
 use Rattle.game.specs.ListLaws.{◌∈◌}

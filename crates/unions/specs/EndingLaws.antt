@@ -1,20 +1,19 @@
 -- What the ends of a rule's runs have more: over two letters from sets that are new, or have an element with a new transition.
-use Rattle.std.specs.Prelude.{ℕ, zero, suc, ◌+◌, ◌*◌, ◌/◌, ◌%◌, ◌^◌, ◌<◌, ◌≤◌, ◌≡◌, refl, ◌⊎◌, true, false, not, ◌&&◌, ◌||◌, List, map, ◌∷◌, [], length, eqb, ltb}
-use Rattle.std.proofs.Common.{arith, sym, ap, subst, ◌∙◌, inl, inr, ⊎_elim, eqb-true, ltb-true, ltb-false}
+use Rattle.std.specs.Prelude.{ℕ, zero, suc, ◌+◌, ◌*◌, ◌/◌, ◌^◌, ◌<◌, ◌≡◌, ◌⊎◌, true, false, List, map, ◌∷◌, [], length, eqb, ltb}
+use Rattle.std.proofs.Common.{arith, sym, ap, subst, ◌∙◌, inl, inr, ⊎_elim, ltb-true, ltb-false}
 use Rattle.std.proofs.Math.ListN.{get_or}
-use Rattle.std.proofs.lemmas.Bool.{eqb-false}
 use Rattle.game.specs.Sets.{has, union}
 use Rattle.game.specs.SetLaws.{union-has, right-union, left-union, has-below}
-use Rattle.game.specs.ListLaws.{◌∈◌, test, clash, both, conj, either, left_or, right_or, below_suc, in_map, flat_map-in, in-flat_map}
+use Rattle.game.specs.ListLaws.{test, clash, below_suc, in_map, flat_map-in, in-flat_map}
 use Rattle.game.specs.Game.{PushdownGame, word_of}
 use Rattle.table.specs.Table.{Entry}
-use Rattle.family.specs.Family.{holds, TakenIn, Copied}
+use Rattle.family.specs.Family.{holds, Copied}
 use Rattle.rounds.specs.Rounds.{members, sets_of, ends}
 use Rattle.rounds.specs.EndsLaws.{in_members, unions-sound}
-use Rattle.unions.specs.Expand.{expand, Elements, AllWithin}
+use Rattle.unions.specs.Expand.{expand, AllWithin}
 use Rattle.unions.specs.ExpandLaws.{alike, same_test, expand-none, expand-has, has-expand}
 use Rattle.unions.specs.UnionSteps.{unions_of, tables_more}
-use Rattle.unions.specs.Pool.{Is, Grew, Head, Union, Layout, HeadsHold, HeadsGrew, Kept}
+use Rattle.unions.specs.Pool.{Grew, Head, Union, Layout, HeadsHold, HeadsGrew, Kept}
 use Rattle.unions.specs.PoolLaws.{head-within}
 use Rattle.unions.specs.Ending.{Sum, Picked, Runs, Ends}
 

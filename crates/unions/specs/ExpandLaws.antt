@@ -1,9 +1,9 @@
 -- Laws of sets of elements: who is in the set of states, unions, order, and which sets of states are reached.
-use Prim.Native.Nat.{ℕ, zero, suc, ◌+◌, ◌*◌, ◌-◌, ◌/◌, ◌%◌, ◌^◌, ◌<◌, ◌≤◌, max}
+use Prim.Native.Nat.{ℕ, zero, suc, ◌+◌, ◌*◌, ◌-◌, ◌/◌, ◌%◌, ◌^◌, ◌<◌, ◌≤◌}
 use native.Mathlib.Omega.{arith}
-use Rattle.std.proofs.Common.{div-one, suc-mul, mul-le-mul_right, le_refl, zero-mul, add-mul, mul_assoc, one-mul, add-zero, div-lt_iff_lt-mul, subst, ◌∙◌, inl, inr, ⊎_elim, pow-add, pow_pos, pow_mono, shr-shr, ltb-true, ltb-false, eqb-true}
+use Rattle.std.proofs.Common.{div-one, suc-mul, mul-le-mul_right, zero-mul, add-mul, mul_assoc, one-mul, add-zero, div-lt_iff_lt-mul, subst, ◌∙◌, ⊎_elim, pow-add, pow_pos, shr-shr, ltb-true, ltb-false, eqb-true}
 use Rattle.std.proofs.Math.Nat.{pow-suc}
-use Rattle.std.specs.Prelude.{◌≡◌, refl, ◌⊎◌, Bool, true, false, List, [], ◌∷◌, length, get_or, eqb, ltb}
+use Rattle.std.specs.Prelude.{◌≡◌, refl, Bool, true, false, List, [], ◌∷◌, length, get_or, eqb, ltb}
 use Rattle.std.proofs.Math.Path.{sym, ap}
 use Rattle.std.specs.Int.Bits.{bit_or, bit_and, or_block, or_mod, or_shifted, or_zero_r}
 use Rattle.std.proofs.lemmas.Nat.{or_shr}
@@ -12,8 +12,8 @@ use Rattle.std.specs.Int.Count.{count_trailing_zeros}
 use Rattle.std.proofs.Math.Pow.{pow-lt}
 use Rattle.std.proofs.lemmas.Bool.{eqb-false}
 use Rattle.game.specs.Sets.{has, single, union}
-use Rattle.game.specs.SetLaws.{union-has, left-union, right-union, union-below, none_has, single-has, has-single, has-below, member_of}
-use Rattle.game.specs.LowestLaws.{LowestOf, lowest-of, Cleared, cleared, cleared-falls}
+use Rattle.game.specs.SetLaws.{union-has, left-union, right-union, union-below, none_has, single-has, has-single, member_of}
+use Rattle.game.specs.LowestLaws.{lowest-of, cleared, cleared-falls}
 use Rattle.game.specs.ListLaws.{test, clash}
 use Rattle.unions.specs.Expand.{expand, Elements, Within}
 use Rattle.unions.specs.UnionSteps.{Added}

@@ -1,11 +1,11 @@
 -- The unions of two families, and what they have more where both grew.
-use Rattle.std.specs.Prelude.{ℕ, ◌+◌, ◌*◌, ◌/◌, ◌^◌, ◌<◌, ◌≤◌, ◌≡◌, refl, ◌⊎◌, true, false, not, ◌&&◌, ◌||◌, List, length}
-use Rattle.std.proofs.Common.{arith, sym, ap, subst, ◌∙◌, inl, inr, ⊎_elim}
+use Rattle.std.specs.Prelude.{ℕ, ◌/◌, ◌^◌, ◌<◌, ◌≡◌, ◌⊎◌, true, false, not, List, length}
+use Rattle.std.proofs.Common.{sym, ap, subst, ◌∙◌, inl, inr, ⊎_elim}
 use Rattle.std.proofs.lemmas.Nat.{or_comm}
 use Rattle.game.specs.Sets.{union}
 use Rattle.game.specs.SetLaws.{union-below}
 use Rattle.game.specs.ListLaws.{test, clash, both, either, conj, left_or, right_or}
-use Rattle.family.specs.Family.{holds, UnitesInto, TakenIn, Elsewhere}
+use Rattle.family.specs.Family.{holds, UnitesInto, TakenIn}
 use Rattle.unions.specs.Expand.{expand, Elements, Within}
 use Rattle.unions.specs.ExpandLaws.{expand-union, expand-same}
 use Rattle.unions.specs.UnionSteps.{Join}

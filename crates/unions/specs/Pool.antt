@@ -1,7 +1,6 @@
 -- The families of a round as the code keeps them: in one area those of the heads and, after them, lines, each of which has the unions
 -- over a set and a letter.
-use Rattle.std.specs.Prelude.{ℕ, ◌+◌, ◌*◌, ◌/◌, ◌%◌, ◌^◌, ◌<◌, ◌≤◌, ◌≡◌, ◌⊎◌, true, false, List, [], length, get_or}
-use Rattle.game.specs.Sets.{has}
+use Rattle.std.specs.Prelude.{ℕ, ◌+◌, ◌*◌, ◌/◌, ◌^◌, ◌<◌, ◌≤◌, ◌≡◌, ◌⊎◌, true, List, length, get_or}
 use Rattle.game.specs.Game.{PushdownGame}
 use Rattle.game.specs.ListLaws.{◌∈◌}
 use Rattle.table.specs.Table.{Entry}

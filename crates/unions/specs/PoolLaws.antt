@@ -1,19 +1,18 @@
 -- Laws of the families that are kept: which family has the unions over a set, a line brought up to a table, and a line more.
-use Rattle.std.specs.Prelude.{ℕ, suc, ◌+◌, ◌*◌, ◌/◌, ◌%◌, ◌^◌, ◌<◌, ◌≤◌, ◌≡◌, refl, ◌⊎◌, true, false, ◌||◌, List, [], ◌∷◌, length, get_or, set, eqb, ltb}
-use Rattle.std.proofs.Common.{arith, lt_of_lt_of_le, mul-le-mul_right, suc-mul, sym, ap, subst, ◌∙◌, inl, inr, ⊎_elim, pow_mono, pow_pos, get_or-set_same, get_or-set_other, eqb-true, ltb-true, ltb-false}
-use Rattle.std.proofs.lemmas.Bool.{eqb-false}
+use Rattle.std.specs.Prelude.{ℕ, suc, ◌+◌, ◌*◌, ◌/◌, ◌^◌, ◌<◌, ◌≤◌, ◌≡◌, ◌⊎◌, true, false, List, [], ◌∷◌, length, get_or, set, ltb}
+use Rattle.std.proofs.Common.{arith, lt_of_lt_of_le, mul-le-mul_right, suc-mul, sym, ap, subst, ◌∙◌, inl, inr, ⊎_elim, pow_mono, pow_pos, get_or-set_same, get_or-set_other, ltb-true, ltb-false}
 use Rattle.game.specs.Sets.{has, single, union}
-use Rattle.game.specs.SetLaws.{has-below, union-below}
+use Rattle.game.specs.SetLaws.{union-below}
 use Rattle.game.specs.Game.{PushdownGame}
-use Rattle.game.specs.ListLaws.{◌∈◌, test, clash, below_suc}
+use Rattle.game.specs.ListLaws.{test, clash, below_suc}
 use Rattle.table.specs.Table.{Entry}
 use Rattle.family.specs.Family.{holds, UnitesInto, TakenIn, Copied, Elsewhere}
-use Rattle.rounds.specs.Rounds.{members, sets_of, ends}
+use Rattle.rounds.specs.Rounds.{members, ends}
 use Rattle.rounds.specs.EndsLaws.{sets_of-in}
 use Rattle.unions.specs.Expand.{expand, Elements, Within, AllWithin}
-use Rattle.unions.specs.ExpandLaws.{expand-none, expand-single, expand-union, expand-has, expand-added, expand-small}
-use Rattle.unions.specs.UnionSteps.{unions_of, Added, Join, single-in, in-single, unions-parts, parts-unions, unions-all, tables_more}
-use Rattle.unions.specs.Pool.{Is, Grew, Head, Union, Layout, HeadsHold, HeadsGrew, Kept, key_for, Names, of-head, of-line, Line, Lines, LinesHold, LinesGrew, Pool, Fits}
+use Rattle.unions.specs.ExpandLaws.{expand-none, expand-single, expand-union, expand-has, expand-added}
+use Rattle.unions.specs.UnionSteps.{Added, single-in, in-single, unions-parts, parts-unions, unions-all, tables_more}
+use Rattle.unions.specs.Pool.{Is, Grew, Head, Union, Layout, HeadsHold, HeadsGrew, Kept, key_for, Names, of-head, of-line, Line, LinesHold, LinesGrew, Pool, Fits}
 use Rattle.unions.specs.JoinLaws.{is-as, grew-as, is-kept, grew-kept, join_is, delta-is}
 
 -- a set of elements is below 1,024

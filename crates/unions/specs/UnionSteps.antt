@@ -1,5 +1,5 @@
 -- The unions over a set and a letter, one state after another, and over two tables.
-use Rattle.std.specs.Prelude.{ℕ, zero, suc, ◌^◌, ◌<◌, ◌≤◌, ◌≡◌, refl, true, false}
+use Rattle.std.specs.Prelude.{ℕ, zero, suc, ◌^◌, ◌<◌, ◌≡◌, refl, true, false}
 use Rattle.std.proofs.Common.{arith, sym, subst, ◌∙◌, ⊎_elim}
 use Rattle.std.proofs.Math.Path.{ap}
 use mathlib.Core.List.Memᴰ
@@ -8,7 +8,7 @@ use Rattle.game.specs.Sets.{has, single, union}
 use Rattle.game.specs.Game.{PushdownGame}
 use Rattle.game.specs.SetLaws.{has-below, none_has, single-has, has-single, single-below}
 use Rattle.game.specs.UnionLaws.{union_assoc, union-none, none-union}
-use Rattle.game.specs.ListLaws.{◌∈◌, test, clash, below_suc, map-in, in_map, flat_map-in, in-flat_map}
+use Rattle.game.specs.ListLaws.{◌∈◌, test, below_suc, map-in, in_map, flat_map-in, in-flat_map}
 use Rattle.table.specs.Table.{Entry}
 use Rattle.rounds.specs.Rounds.{members, sets_of, unions, ends}
 use Rattle.rounds.specs.MemberLaws.{members-none}

@@ -1,6 +1,4 @@
 use native.Mathlib.Omega.{arith}
-use mathlib.Core.Logic.{⊎_elim}
-use Rattle.game.specs.ListLaws.{not-false}
 use Rattle.noting.proofs.Marking.{head_small, head-place, marks-none, marks-more, marks-less, marks-all}
 use Rattle.unions.specs.PlaceLaws.{row_small}
 use Rattle.noting.proofs.masks.mark.Goals as goal

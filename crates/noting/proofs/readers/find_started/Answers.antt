@@ -1,6 +1,5 @@
 use mathlib.Core.Path.{refl}
 use Rattle.noting.proofs.ActiveRules.{started_none, started-some}
-use borrow.Author.Rules.{rules}
 use Rattle.noting.proofs.readers.find_started.Goals as goal
 
 -- A word without letters has no rule; otherwise what was summed is met with the rules of the state. Assumes what the contract requires.

@@ -1,7 +1,6 @@
 use native.Mathlib.Omega.{arith}
 use mathlib.Core.Path.{refl}
 use Rattle.saturation.proofs.AbelardHeads.{not_none, step-offer}
-use borrow.Author.Rules.{rules}
 use Rattle.saturation.proofs.heads.take_head.Goals as goal
 
 pub returns-then-rulecount-first : goal.returns-then-rulecount-first

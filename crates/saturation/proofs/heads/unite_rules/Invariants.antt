@@ -1,5 +1,4 @@
 use Prim.Native.Nat.{◌-◌}
-use borrow.Author.Rules.{rules}
 use Rattle.saturation.proofs.HeadTurns.{Unites}
 use Rattle.saturation.proofs.heads.unite_rules.Given as goal
 

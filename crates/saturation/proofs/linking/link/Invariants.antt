@@ -1,7 +1,6 @@
 use Prim.Native.Nat.{suc, ◌<◌}
 use lib.ListN.{length}
 use mathlib.Core.Path.{◌≡◌}
-use borrow.Author.Rules.{rules}
 use Rattle.saturation.specs.RuleLinks.{LinkedFrom}
 use Rattle.saturation.proofs.linking.link.Given as goal
 

@@ -1,10 +1,9 @@
 use Prim.Native.Nat.{ℕ, ◌*◌, ◌-◌}
-use borrow.Author.Rules.{rules}
 use mathlib.Core.Path.{◌≡◌}
 use lib.ListN.{length, replicate}
 use Rattle.game.specs.Game.{PushdownGame}
 use Rattle.solver.specs.Given.{Given}
-use Rattle.solver.proofs.Targets.{Adding, many}
+use Rattle.solver.proofs.Targets.{Adding}
 use Rattle.solver.proofs.solving.round_zero.Given as goal
 
 -- The transitions before place t are added (`Adding`). The measure is how many are left.

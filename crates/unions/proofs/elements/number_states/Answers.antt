@@ -1,5 +1,4 @@
 use native.Mathlib.Omega.{arith}
-use mathlib.Core.Logic.{⊎_elim}
 use Rattle.game.specs.LowestLaws.{cleared-falls}
 use Rattle.unions.proofs.Naming.{naming-starts, naming-first, naming-later, naming-ends}
 use Rattle.unions.proofs.elements.number_states.Goals as goal

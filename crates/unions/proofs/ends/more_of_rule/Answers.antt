@@ -1,7 +1,6 @@
 use native.Mathlib.Omega.{arith}
 use mathlib.Core.Path.{refl, sym, ◌∙◌}
 use Rattle.unions.proofs.Writes.{rule-more, to_is, count-is}
-use borrow.Author.Rules.{rules}
 use Rattle.unions.proofs.ends.more_of_rule.Goals as goal
 
 pub more_ends-requires : goal.more_ends-requires
