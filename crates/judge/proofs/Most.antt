@@ -27,7 +27,7 @@ use Rattle.judge.specs.PositionLaws.{in_bytes}
 use Rattle.judge.specs.Judged.{judged}
 use Rattle.judge.specs.declared.verdict.Verdict.{Verdict as Answered}
 use Rattle.judge.specs.declared.verdict.Verdict.TheVariants.{Lost, Target, Eloise, Abelard, Refused}
-use Rattle.judge.specs.Most.{most_bound, bound_in}
+use Rattle.judge.specs.Most.{most_bound, bound_in, returned_bound}
 
 -- a bound on a stack of h letters is at most h × (2^R − 1)
 bound-most : (g : PushdownGame) (table : List Entry) → AllInForm g table → (p a : ℕ) (rest : List ℕ) (b : ℕ)
@@ -90,14 +90,6 @@ module _ (file words position : List ℕ) where
       by_after judge_numbers (form g.control g.letters position) _
       (by-back file_numbers _ _ (by-back table_numbers position_numbers _ (position-numbers g.control g.letters position)))
       (λ v. by-none judge_numbers (verdict_of_bytes g (entries_of words) position))))
-
--- the bound that an answer of `judge` has; 0 where it has none
-unfoldable pub returned_bound : Answered → ℕ
-returned_bound (Lost rule) = 0
-returned_bound Target = 0
-returned_bound (Eloise rule b) = b
-returned_bound (Abelard b) = b
-returned_bound (Refused question place) = 0
 
 -- Of whatever keeps the promise of `judge`:
 module _ (file words position : List ℕ) where

@@ -3,6 +3,8 @@
 use Rattle.std.specs.Prelude.{ℕ, ◌-◌, ◌*◌, ◌^◌}
 use Rattle.game.specs.Limits.{max_rounds, max_stack}
 use Rattle.judge.specs.Verdict.{Verdict, lost, target, eloise, abelard}
+use Rattle.judge.specs.declared.verdict.Verdict.{Verdict as Answered}
+use Rattle.judge.specs.declared.verdict.Verdict.TheVariants.{Lost, Target, Eloise, Abelard, Refused}
 
 -- "A judged stack has at most 256 letters and each transition is worth at most 2^40 − 1"
 abbrev pub most_bound : ℕ
@@ -14,3 +16,11 @@ bound_in (lost rule) = 0
 bound_in target = 0
 bound_in (eloise rule b) = b
 bound_in (abelard b) = b
+
+-- the bound that an answer of `judge` has; 0 where it has none
+unfoldable pub returned_bound : Answered → ℕ
+returned_bound (Lost rule) = 0
+returned_bound Target = 0
+returned_bound (Eloise rule b) = b
+returned_bound (Abelard b) = b
+returned_bound (Refused question place) = 0
