@@ -1,5 +1,4 @@
 use Prim.Native.Nat.{◌-◌, ◌≤◌}
-use borrow.Author.Rules.{rules}
 use Rattle.trial.proofs.contests.drawn_rule.Given as goal
 
 -- `contests::drawn_rule` ends and is safe. The measure is how many rules are left.

@@ -1,7 +1,6 @@
 use Prim.Native.Nat.{◌-◌, ◌+◌}
 use mathlib.Core.Path.{◌≡◌}
 use lib.ListN.{length}
-use borrow.Author.Rules.{rules}
 use Rattle.trial.proofs.games.put_head.Given as goal
 
 -- `games::put_head` ends and is safe. The loop keeps the file's length. The measure is how many rules are left.
