@@ -1,7 +1,6 @@
 use Prim.Native.Nat.{◌-◌}
 use mathlib.Core.Path.{◌≡◌}
 use lib.ListN.{length}
-use borrow.Author.Rules.{rules}
 use Rattle.checklist.proofs.sessions.spread_of.Given as goal
 
 -- `sessions::spread_of` ends and is safe. The loop keeps the length of the position's buffer. The measure is how many rules are
