@@ -12,7 +12,7 @@ use types.Run.{OneOf, miss}
 use denote.Enum.Declared.{tag_of}
 use Rattle.game.specs.Game.{PushdownGame}
 use Rattle.game.specs.Limits.{max_entries}
-use Rattle.game.specs.Outcome.{Outcome, done, refused, after, said}
+use Rattle.game.specs.Outcome.{Outcome, after, said}
 use Rattle.game.specs.declared.game.Answer.{Answer}
 use Rattle.game.specs.declared.game.Answer.TheVariants.{Done, Refused}
 use Rattle.game.specs.contracts.game.Answer as AnswerIs
