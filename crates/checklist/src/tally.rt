@@ -1,5 +1,5 @@
-// The tally: how many tries were made and how many failed. It leaves out which they were, which the lines say. A line that cannot be
-// written is left out, but for the last one: where that cannot be written, the run ends with its error.
+// The tally: how many tries were made and how many failed. It leaves out which they were, which the lines say. The line of a try is
+// left out where it cannot be written; where the last line cannot be, the run ends with its error.
 use output::Line;
 use script::{beyond, up};
 use std::io;

@@ -1,5 +1,5 @@
-// The tally: how many checks were made and how many failed. A check that fails prints one line. A line that cannot be written is
-// left out, but for the last one: where that cannot be written, the run ends with its error.
+// The tally: how many checks were made and how many failed. A check that fails prints one line. The line of a check or of a group is
+// left out where it cannot be written; where the last line cannot be, the run ends with its error.
 use crate::damage::Damage;
 use crate::expected::{Expected, answer_after};
 use game::Answer;
