@@ -1,4 +1,5 @@
 pub mod Checked
+pub mod CutLaws
 pub mod Halving
 pub mod Parts
 pub mod Pass

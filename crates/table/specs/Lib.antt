@@ -4,7 +4,6 @@ pub mod Pairwise
 pub mod OrderLaws
 pub mod Rows
 pub mod RowLaws
-pub mod CutLaws
 pub mod PlaceLaws
 pub mod WordLaws
 pub mod Filling

@@ -16,7 +16,7 @@ use Rattle.game.specs.Outcome.{Outcome, after, said}
 use Rattle.game.specs.declared.game.Answer.{Answer}
 use Rattle.game.specs.declared.game.Answer.TheVariants.{Done, Refused}
 use Rattle.game.specs.contracts.game.Answer as AnswerIs
-use Rattle.table.specs.CutLaws.{few-entries, cut_at}
+use Rattle.table.proofs.CutLaws.{few-entries, cut_at}
 use Rattle.table.specs.Rows.{words_at, no_words}
 use Rattle.table.specs.Table.{entry_stride, length_in_form, form_from, table_form}
 use Rattle.table.specs.declared.entry.EntryWords.{EntryWords}
