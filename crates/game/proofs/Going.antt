@@ -11,8 +11,11 @@ use types.Run.{OneOf, miss}
 use denote.Enum.Declared.{tag_of}
 use Rattle.game.specs.Limits.{max_control, max_states, max_letters, max_rules, max_targets, rule_stride, target_stride}
 use Rattle.game.specs.Game.{PushdownGame, empty_game}
-use Rattle.game.specs.Outcome.{Outcome, refused}
-use Rattle.game.specs.Command.{command_at}
+use Rattle.game.specs.Outcome.{Outcome, refused, number, unread_as}
+use Rattle.game.specs.Command.{Found, command_at}
+use Rattle.std.specs.Prelude.{Ok, Err}
+use Rattle.game.specs.declared.command.Unread.{Unread}
+use Rattle.game.specs.declared.command.Unread.TheVariants.{Cut, Unknown}
 use Rattle.game.specs.CommandLaws.{found-further}
 use Rattle.game.specs.WalkLaws.{turn, not_end}
 use Rattle.game.specs.Questions.{ask, ask_found, Room, add, every_head, ending, taken, met, walk, reading}
@@ -24,10 +27,7 @@ use Rattle.game.specs.Reads.{so_far, limits, room}
 use Rattle.game.specs.declared.game.Sizes.{Sizes}
 use Rattle.game.specs.declared.command.Command.{Command}
 use Rattle.game.specs.declared.command.Command.TheVariants.{End}
-use Rattle.game.specs.declared.command.Found.{Found}
-use Rattle.game.specs.declared.command.Found.TheVariants.{Next, Missing, Unknown}
 use Rattle.game.specs.contracts.command.Command as CommandIs
-use Rattle.game.specs.contracts.command.Found as FoundIs
 
 pub record Going (file : List ℕ) (sizes : Sizes) (rules targets marks : List ℕ) (at : ℕ) : Type 0 where
   pub so : PushdownGame
@@ -51,12 +51,11 @@ start file sizes rules targets marks low high e f =
       same = rw (le-ltb (length file) 1 low, le-ltb 4096 (length file) high);
     }
 
-no-command : (size at : ℕ) (g : PushdownGame) (found : Found) (rest : ℕ → PushdownGame → Outcome PushdownGame)
-    → OneOf (1 ∷ 2 ∷ []) (tag_of FoundIs.the_type found) → met size at g found rest ≡ refused (ask_found found) at
-unfolding met
-no-command size at g (Next command next) rest h = absurd (miss (1 ∷ 2 ∷ []) 0 tt h)
-no-command size at g Missing rest h = refl
-no-command size at g Unknown rest h = refl
+no-command : (size at : ℕ) (g : PushdownGame) (unread : Unread) (rest : ℕ → PushdownGame → Outcome PushdownGame)
+    → met size at g (Err unread) rest ≡ refused (number (unread_as unread)) at
+unfolding met ask_found
+no-command size at g Cut rest = refl
+no-command size at g Unknown rest = refl
 
 -- the keys of every command but FF
 not-end-key : (command : Command) → OneOf (0 ∷ 1 ∷ 2 ∷ 3 ∷ 4 ∷ []) (tag_of CommandIs.the_type command) → command ≡ End → ⊥
@@ -71,11 +70,11 @@ module _ (file : List ℕ) (sizes : Sizes) (rules targets marks : List ℕ) (at 
   here = turn file going.turns at going.so inside going.enough
 
   -- 2 or 19 is answered no
-  pub stops : (found : Found) → found ≡ command_at file at → OneOf (1 ∷ 2 ∷ []) (tag_of FoundIs.the_type found) → reading file ≡ refused (ask_found found) at
-  stops found e h =
+  pub stops : (unread : Unread) → command_at file at ≡ Err unread → reading file ≡ refused (number (unread_as unread)) at
+  stops unread e =
       going.same
       ∙ here.2
-      ∙ rw (← e) (no-command (length file) at going.so found (walk here.0 file) h)
+      ∙ rw e (no-command (length file) at going.so unread (walk here.0 file))
 
   bounds : (sizes.control ≤ max_states) × (sizes.states ≤ max_states) × (sizes.rulecount ≤ max_rules) × (sizes.targetcount ≤ max_targets)
   bounds = rw going.held.sized (limits going.so going.kept)
@@ -106,7 +105,7 @@ module _ (file : List ℕ) (sizes : Sizes) (rules targets marks : List ℕ) (at 
     },
   )
 
-  module _ (command : Command) (next : ℕ) (found : command_at file at ≡ Next command next) where
+  module _ (command : Command) (next : ℕ) (found : command_at file at ≡ Ok (command, next)) where
     pub further : at < next
     further = found-further file at command next found
 

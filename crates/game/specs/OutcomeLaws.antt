@@ -1,13 +1,35 @@
 -- Laws of outcomes: what a question that is passed says, and by which numbers an outcome can refuse.
 use Rattle.std.specs.Prelude.{ℕ, ◌≡◌, refl, true, List, [], ◌∷◌, ◌++◌, eqb}
 use Rattle.std.proofs.Common.{sym, subst, ⊎_elim, arith}
-use Rattle.game.specs.Outcome.{Outcome, done, refused, after}
+use Rattle.game.specs.Outcome.{Outcome, done, refused, after, number}
+use Rattle.game.specs.declared.refusal.Question.{Question}
+use Rattle.game.specs.declared.refusal.Question.TheVariants.{Length, Known, Order, Range, Bottom, New, Room, Last, Heads, Areas, Entries, Rounds, Table, Position, Head, Height, Operands}
 use Rattle.game.specs.Questions.{any}
 use Rattle.game.specs.Numbers.{is_one_of}
 use Rattle.game.specs.ListLaws.{clash, either, left_or, right_or}
 
 pub done-same : {A : Type 0} {x y : A} → done x ≡ done y → x ≡ y
 done-same e = cc
+
+-- no question has the number that stands for none
+pub number_some : (q : Question) → number q ≡ 0 → ⊥
+number_some Length e = omega (arith, e)
+number_some Known e = omega (arith, e)
+number_some Order e = omega (arith, e)
+number_some Range e = omega (arith, e)
+number_some Bottom e = omega (arith, e)
+number_some New e = omega (arith, e)
+number_some Room e = omega (arith, e)
+number_some Last e = omega (arith, e)
+number_some Heads e = omega (arith, e)
+number_some Areas e = omega (arith, e)
+number_some Entries e = omega (arith, e)
+number_some Rounds e = omega (arith, e)
+number_some Table e = omega (arith, e)
+number_some Position e = omega (arith, e)
+number_some Head e = omega (arith, e)
+number_some Height e = omega (arith, e)
+number_some Operands e = omega (arith, e)
 
 pub after-done : {A B : Type 0} (o : Outcome A) (f : A → Outcome B) {y : B} → after o f ≡ done y → (x : A) × (o ≡ done x) × (f x ≡ done y)
 unfolding after

@@ -6,11 +6,12 @@ use Rattle.game.specs.Limits.{max_file, max_control, max_states, max_letters, ma
 use Rattle.game.specs.Sets.{has, single, union, within}
 use Rattle.game.specs.Game.{Rule, Transition, PushdownGame, empty_game, word_of, of_head}
 use Rattle.game.specs.Outcome.{Outcome, done, refused}
-use Rattle.game.specs.Command.{command_at}
+use Rattle.game.specs.Command.{Found, command_at}
+use Rattle.std.specs.Prelude.{Ok, Err}
+use Rattle.game.specs.declared.command.Unread.{Unread}
+use Rattle.game.specs.declared.command.Unread.TheVariants.{Cut, Unknown}
 use Rattle.game.specs.declared.command.Command.{Command}
 use Rattle.game.specs.declared.command.Command.TheVariants.{Sizes, Abelard, Final, Rule as RuleIs, Target, End}
-use Rattle.game.specs.declared.command.Found.{Found}
-use Rattle.game.specs.declared.command.Found.TheVariants.{Next, Missing, Unknown}
 
 unfoldable pub any : {A : Type 0} → (A → Bool) → List A → Bool
 any test [] = false
@@ -195,9 +196,9 @@ ending size at g = cond (eqb (at + 1) size) (cond (every_head g.control g.letter
 -- Questions 2 and 19 put to what stands at an offset: 0, or the number of the one that is answered no. "2 means an unknown command byte
 -- only. 19 when a known command's operands run past the end of the file": never both.
 unfoldable pub ask_found : Found → ℕ
-ask_found (Next command next) = 0
-ask_found Missing = 19
-ask_found Unknown = 2
+ask_found (Ok (command, next)) = 0
+ask_found (Err Cut) = 19
+ask_found (Err Unknown) = 2
 
 -- a command that passed 2, 19 and 3 to 7: the walk stops at FF, and goes on after any other
 unfoldable pub taken : ℕ → ℕ → PushdownGame → Command → Outcome PushdownGame → Outcome PushdownGame
@@ -210,9 +211,9 @@ taken size at g End rest = ending size at g
 
 -- 2. Is the command known? 19. Has it all its operands? Then 3 to 7. `rest` is the walk after it.
 unfoldable pub met : ℕ → ℕ → PushdownGame → Found → (ℕ → PushdownGame → Outcome PushdownGame) → Outcome PushdownGame
-met size at g Missing rest = refused (ask_found Missing) at
-met size at g Unknown rest = refused (ask_found Unknown) at
-met size at g (Next command next) rest =
+met size at g (Err Cut) rest = refused (ask_found (Err Cut)) at
+met size at g (Err Unknown) rest = refused (ask_found (Err Unknown)) at
+met size at g (Ok (command, next)) rest =
     let number = ask g command in
     let after = rest next (add g command) in
     cond (eqb number 0) (taken size at g command after) (refused number at)

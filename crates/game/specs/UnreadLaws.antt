@@ -7,15 +7,17 @@ use Rattle.std.proofs.Common.{sym, ◌∙◌, arith}
 use Rattle.std.proofs.lemmas.Bool.{eqb-false}
 use Rattle.game.specs.Limits.{max_file}
 use Rattle.game.specs.Game.{PushdownGame, empty_game}
-use Rattle.game.specs.Outcome.{Outcome, done, refused, answer, said}
+use Rattle.game.specs.Outcome.{Outcome, done, refused, said}
 use Rattle.game.specs.Command.{whole, decoded, command_at}
 use Rattle.game.specs.CommandLaws.{command_size, found-unknown, found-missing}
 use Rattle.game.specs.Questions.{in_order, sizes_in_range, in_range, keeps_bottom, is_new, has_room, ask, ask_found, add, taken, met, walk, reading}
 use Rattle.game.specs.WalkLaws.{Comes, comes-on, of-reading, reading-there}
-use Rattle.game.specs.Stored.{Reports}
+use Rattle.game.specs.Stored.{as_stored, Reports}
 use Rattle.game.specs.ListLaws.{of_either}
 use Rattle.game.specs.declared.command.Command.{Command}
-use Rattle.game.specs.declared.game.Reading.{Reading}
+use Rattle.game.specs.declared.game.Game.{Game}
+use Rattle.game.specs.declared.refusal.Refusal.{Refusal}
+use Rattle.std.specs.Prelude.{Result}
 
 -- The walk over a file of 1 to 4,096 bytes comes to an offset before its end: commands that pass stand one after the other up to there.
 pub record Reached (file : List ℕ) (at : ℕ) : Type 0 where
@@ -133,21 +135,21 @@ module _ (file : List ℕ) where
         let there = reading-there file (omega (arith, inside)) r.few r.commands at r.game r.comes inside in
         there.1 ∙ rw ((found-missing file at inside).1 h.beyond)
 
-answered : (o : Outcome PushdownGame) (n p : ℕ) → answer o ≡ refused n p → o ≡ refused n p
+answered : (o : Outcome PushdownGame) (n p : ℕ) → as_stored o ≡ refused n p → o ≡ refused n p
 answered (done g) n p e = absurd (let z : ◌≡◌ {A = ℕ} 0 1 = cc in omega arith)
 answered (refused m q) n p e = cc
 
 -- Of whatever keeps the promise of `Game::read`:
-module _ (file : List ℕ) (r : Reading) (reports : Reports (reading file) r) (at : ℕ) where
-  both_ways : (n : ℕ) (P : Type 0) → ((reading file ≡ refused n at) ↔ P) → ((said r.answer ≡ refused n at) ↔ P)
-  both_ways n P iff = (λ e. iff.0 (answered (reading file) n at (sym reports.answers ∙ e)), λ p. reports.answers ∙ rw (iff.1 p))
+module _ (file : List ℕ) (r : Result Game Refusal) (reports : Reports (reading file) r) (at : ℕ) where
+  both_ways : (n : ℕ) (P : Type 0) → ((reading file ≡ refused n at) ↔ P) → ((said r ≡ refused n at) ↔ P)
+  both_ways n P iff = (λ e. iff.0 (answered (reading file) n at (sym reports ∙ e)), λ p. reports ∙ rw (iff.1 p))
 
   -- it answers 2 exactly where the walk comes to an unknown command byte,
-  pub refused-unknown : (said r.answer ≡ refused 2 at) ↔ UnknownAt file at
+  pub refused-unknown : (said r ≡ refused 2 at) ↔ UnknownAt file at
   refused-unknown = both_ways 2 (UnknownAt file at) ((tells file).unknown at, says-unknown file at)
 
   -- and 19 exactly where it comes to a known command whose operands run past the end of the file.
-  pub refused-cut : (said r.answer ≡ refused 19 at) ↔ CutAt file at
+  pub refused-cut : (said r ≡ refused 19 at) ↔ CutAt file at
   refused-cut = both_ways 19 (CutAt file at) ((tells file).cut at, says-cut file at)
 
 -- An unknown command byte, the last of a file and with bytes after it; a rule cut after its first operand, which is out of range; a

@@ -11,25 +11,26 @@ use borrow.Author.Tests.{ltb-true, ltb-false, lt-ltb, le-ltb, eqb-true, eqb-fals
 use Rattle.game.specs.Limits.{max_file}
 use Rattle.game.specs.Game.{PushdownGame, empty_game}
 use Rattle.game.specs.Outcome.{Outcome, done, refused}
-use Rattle.game.specs.Command.{command_at}
+use Rattle.game.specs.Command.{Found, command_at}
+use Rattle.std.specs.Prelude.{Ok, Err}
+use Rattle.game.specs.declared.command.Unread.{Unread}
+use Rattle.game.specs.declared.command.Unread.TheVariants.{Cut, Unknown}
 use Rattle.game.specs.CommandLaws.{found_inside, found-further}
 use Rattle.game.specs.Questions.{ask, ask_found, add, every_head, ending, taken, met, walk, reading}
 use Rattle.game.specs.ListLaws.{test}
 use Rattle.game.specs.declared.command.Command.{Command}
 use Rattle.game.specs.declared.command.Command.TheVariants.{Sizes, Abelard, Final, Rule, Target, End}
-use Rattle.game.specs.declared.command.Found.{Found}
-use Rattle.game.specs.declared.command.Found.TheVariants.{Next, Missing, Unknown}
 
 -- "commands are walked in order": from an offset with a game, over commands that stand one after the other and pass 3 to 7, none of them
 -- FF, to another offset with the game that they give
 unfoldable pub Comes : List ℕ → ℕ → PushdownGame → List Command → ℕ → PushdownGame → Type 0
 Comes file at g [] to h = (at ≡ to) × (g ≡ h)
 Comes file at g (c ∷ cs) to h =
-    (next : ℕ) × (command_at file at ≡ Next c next) × (ask g c ≡ 0) × (c ≡ End → ⊥) × Comes file next (add g c) cs to h
+    (next : ℕ) × (command_at file at ≡ Ok (c, next)) × (ask g c ≡ 0) × (c ≡ End → ⊥) × Comes file next (add g c) cs to h
 
 -- one command more
 pub comes-on : (file : List ℕ) (at : ℕ) (g : PushdownGame) (cs : List Command) (to : ℕ) (h : PushdownGame) → Comes file at g cs to h
-    → (c : Command) (next : ℕ) → command_at file to ≡ Next c next → ask h c ≡ 0 → (c ≡ End → ⊥) → Comes file at g (cs ++ (c ∷ [])) next (add h c)
+    → (c : Command) (next : ℕ) → command_at file to ≡ Ok (c, next) → ask h c ≡ 0 → (c ≡ End → ⊥) → Comes file at g (cs ++ (c ∷ [])) next (add h c)
 unfolding Comes
 comes-on file at g [] to h (e, f) c next found passed other = (next, rw e found, rw f passed, other, (refl, rw f))
 comes-on file at g (d ∷ cs) to h (n, stands, asked, not_end, rest) c next found passed other =
@@ -37,17 +38,17 @@ comes-on file at g (d ∷ cs) to h (n, stands, asked, not_end, rest) c next foun
 
 -- FF stands at an offset
 abbrev pub EndAt : List ℕ → ℕ → Type 0
-EndAt file at = (next : ℕ) × (command_at file at ≡ Next End next)
+EndAt file at = (next : ℕ) × (command_at file at ≡ Ok (End, next))
 
 -- X holds of each answer that the walk can give. I is what holds where it stands: of the offset and the game so far.
 pub record Answers (file : List ℕ) (I : ℕ → PushdownGame → Type 0) (X : Outcome PushdownGame → Type 0) : Type 0 where
   -- 2 and 19
-  pub by_byte : (at : ℕ) (g : PushdownGame) → I at g → at < length file → command_at file at ≡ Unknown → X (refused 2 at)
-  pub by_end : (at : ℕ) (g : PushdownGame) → I at g → at < length file → command_at file at ≡ Missing → X (refused 19 at)
+  pub by_byte : (at : ℕ) (g : PushdownGame) → I at g → at < length file → command_at file at ≡ (Err Unknown) → X (refused 2 at)
+  pub by_end : (at : ℕ) (g : PushdownGame) → I at g → at < length file → command_at file at ≡ (Err Cut) → X (refused 19 at)
   -- 3 to 7
-  pub by-command : (at next : ℕ) (g : PushdownGame) (command : Command) → I at g → command_at file at ≡ Next command next
+  pub by-command : (at next : ℕ) (g : PushdownGame) (command : Command) → I at g → command_at file at ≡ Ok (command, next)
       → (ask g command ≡ 0 → ⊥) → X (refused (ask g command) at)
-  pub goes_on : (at next : ℕ) (g : PushdownGame) (command : Command) → I at g → command_at file at ≡ Next command next → ask g command ≡ 0
+  pub goes_on : (at next : ℕ) (g : PushdownGame) (command : Command) → I at g → command_at file at ≡ Ok (command, next) → ask g command ≡ 0
       → (command ≡ End → ⊥) → I next (add g command)
   -- at FF: 8, 9, and the game
   pub by-rest : (at : ℕ) (g : PushdownGame) → I at g → EndAt file at → (at + 1 ≡ length file → ⊥) → X (refused 8 at)
@@ -73,7 +74,7 @@ module _ (file : List ℕ) (I : ℕ → PushdownGame → Type 0) (X : Outcome Pu
       (λ (p : eqb (at + 1) (length file) ≡ false). rw p (answers.by-rest at g i end (eqb-false (at + 1) (length file) p)))
       (test (eqb (at + 1) (length file)))
 
-  at-taken : (at next : ℕ) (g : PushdownGame) → I at g → (command : Command) → command_at file at ≡ Next command next → ask g command ≡ 0
+  at-taken : (at next : ℕ) (g : PushdownGame) → I at g → (command : Command) → command_at file at ≡ Ok (command, next) → ask g command ≡ 0
       → (rest : Outcome PushdownGame) → ((command ≡ End → ⊥) → X rest) → X (taken (length file) at g command rest)
   unfolding taken
   at-taken at next g i (Sizes p s l) found passed rest on = on (λ e. let z : ◌≡◌ {A = ℕ} 0 1 = cc in omega arith)
@@ -87,9 +88,9 @@ module _ (file : List ℕ) (I : ℕ → PushdownGame → Type 0) (X : Outcome Pu
       → (rest : ℕ → PushdownGame → Outcome PushdownGame)
       → ((next : ℕ) (grown : PushdownGame) → at < next → I next grown → X (rest next grown)) → X (met (length file) at g found rest)
   unfolding met ask_found
-  at-met at g i inside Missing found rest on = answers.by_end at g i inside found
-  at-met at g i inside Unknown found rest on = answers.by_byte at g i inside found
-  at-met at g i inside (Next command next) found rest on =
+  at-met at g i inside (Err Cut) found rest on = answers.by_end at g i inside found
+  at-met at g i inside (Err Unknown) found rest on = answers.by_byte at g i inside found
+  at-met at g i inside (Ok (command, next)) found rest on =
       ⊎_elim
       (λ (p : eqb (ask g command) 0 ≡ true).
       let passed = eqb-true (ask g command) 0 p in
@@ -143,7 +144,7 @@ module _ (file : List ℕ) where
   turn (suc left) at g inside enough = (left, refl, rw (lt-ltb at (length file) inside))
 
   -- one command is passed
-  passes : (left at : ℕ) (g : PushdownGame) (c : Command) (next : ℕ) → length file ≤ at + left → command_at file at ≡ Next c next → ask g c ≡ 0
+  passes : (left at : ℕ) (g : PushdownGame) (c : Command) (next : ℕ) → length file ≤ at + left → command_at file at ≡ Ok (c, next) → ask g c ≡ 0
       → (c ≡ End → ⊥) → (m : ℕ) × (length file ≤ next + m) × (walk left file at g ≡ walk m file next (add g c))
   unfolding met
   passes left at g c next enough found passed other =

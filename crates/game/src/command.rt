@@ -1,8 +1,11 @@
 // Commands, and what stands at an offset of a game file.
 ghost use Rattle.std.specs.Prelude.{◌≡◌, ◌<◌, ◌+◌, length, get_or};
 ghost use Rattle.game.specs.Command.{whole, set_of, decoded, command_at};
+ghost use Rattle.game.specs.Outcome.{unread_as};
 
-#[derive(Clone, Copy)]
+use crate::refusal::Question;
+
+#[derive(Clone, Copy, Debug, PartialEq, Eq)]
 pub enum Command {
     Sizes {
         control: u8,
@@ -31,20 +34,31 @@ pub enum Command {
     End,
 }
 
-// A command with the offset after it; a known command that the file's end cuts; an unknown command byte.
-#[derive(Clone, Copy)]
-pub enum Found {
-    Next(Command, usize),
-    Missing,
+// Why no command stands at an offset: a known one is cut by the file's end, or the command byte is unknown.
+#[derive(Clone, Copy, Debug, PartialEq, Eq)]
+pub enum Unread {
+    Cut,
     Unknown,
 }
 
-// What stands at an offset of a file.
-pub fn command_at(file: &[u8], at: usize) -> Found
+// The question that is answered no: 19, and 2.
+impl From<Unread> for Question {
+    ghost from_gives = { λ unread question. question ≡ unread_as unread };
+
+    fn from(unread: Unread) -> Question {
+        match unread {
+            Unread::Cut => Question::Operands,
+            Unread::Unknown => Question::Known,
+        }
+    }
+}
+
+// What stands at an offset of a file: a command with the offset after it.
+pub fn command_at(file: &[u8], at: usize) -> Result<(Command, usize), Unread>
     ensures { result ≡ command_at file.now at }
 {
     if file.len() <= at {
-        return Found::Missing;
+        return Err(Unread::Cut);
     }
     let code = file[at];
     match code {
@@ -53,62 +67,58 @@ pub fn command_at(file: &[u8], at: usize) -> Found
         3 => final_at(file, at),
         4 => rule_at(file, at),
         5 => target_at(file, at),
-        255 => Found::Next(Command::End, at + 1),
-        _ => Found::Unknown,
+        255 => Ok((Command::End, at + 1)),
+        _ => Err(Unread::Unknown),
     }
 }
 
-fn sizes_at(file: &[u8], at: usize) -> Found
+fn sizes_at(file: &[u8], at: usize) -> Result<(Command, usize), Unread>
     requires { at < length file.now }
     ensures { result ≡ decoded 1 file.now at }
 {
     if file.len() - at < 4 {
-        return Found::Missing;
+        return Err(Unread::Cut);
     }
     let command = Command::Sizes {
         control: file[at + 1],
         states: file[at + 2],
         letters: file[at + 3],
     };
-    Found::Next(command, at + 4)
+    Ok((command, at + 4))
 }
 
-fn abelard_at(file: &[u8], at: usize) -> Found
+fn abelard_at(file: &[u8], at: usize) -> Result<(Command, usize), Unread>
     requires { at < length file.now }
     ensures { result ≡ decoded 2 file.now at }
 {
     if file.len() - at < 2 {
-        return Found::Missing;
+        return Err(Unread::Cut);
     }
-    Found::Next(
-        Command::Abelard {
-            state: file[at + 1],
-        },
-        at + 2,
-    )
+    let command = Command::Abelard {
+        state: file[at + 1],
+    };
+    Ok((command, at + 2))
 }
 
-fn final_at(file: &[u8], at: usize) -> Found
+fn final_at(file: &[u8], at: usize) -> Result<(Command, usize), Unread>
     requires { at < length file.now }
     ensures { result ≡ decoded 3 file.now at }
 {
     if file.len() - at < 2 {
-        return Found::Missing;
+        return Err(Unread::Cut);
     }
-    Found::Next(
-        Command::Final {
-            state: file[at + 1],
-        },
-        at + 2,
-    )
+    let command = Command::Final {
+        state: file[at + 1],
+    };
+    Ok((command, at + 2))
 }
 
-fn rule_at(file: &[u8], at: usize) -> Found
+fn rule_at(file: &[u8], at: usize) -> Result<(Command, usize), Unread>
     requires { at < length file.now }
     ensures { result ≡ decoded 4 file.now at }
 {
     if file.len() - at < 7 {
-        return Found::Missing;
+        return Err(Unread::Cut);
     }
     let command = Command::Rule {
         from: file[at + 1],
@@ -118,15 +128,15 @@ fn rule_at(file: &[u8], at: usize) -> Found
         above: file[at + 5],
         below: file[at + 6],
     };
-    Found::Next(command, at + 7)
+    Ok((command, at + 7))
 }
 
-fn target_at(file: &[u8], at: usize) -> Found
+fn target_at(file: &[u8], at: usize) -> Result<(Command, usize), Unread>
     requires { at < length file.now }
     ensures { result ≡ decoded 5 file.now at }
 {
     if file.len() - at < 7 {
-        return Found::Missing;
+        return Err(Unread::Cut);
     }
     let set = set_of(file[at + 3], file[at + 4], file[at + 5], file[at + 6]);
     let command = Command::Target {
@@ -134,7 +144,7 @@ fn target_at(file: &[u8], at: usize) -> Found
         letter: file[at + 2],
         set,
     };
-    Found::Next(command, at + 7)
+    Ok((command, at + 7))
 }
 
 // A set of four bytes, lowest first.

@@ -41,13 +41,6 @@ pub struct Sizes {
     pub targetcount: usize,
 }
 
-// Done, or the number of the question that was answered no, and its place.
-#[derive(Clone, Copy)]
-pub enum Answer {
-    Done,
-    Refused { question: u8, place: usize },
-}
-
 // The limits of document 01.
 #[derive(Clone, Copy)]
 pub struct Limits {
@@ -60,13 +53,6 @@ pub struct Limits {
     pub entries: usize,
     pub rounds: u32,
     pub stack: usize,
-}
-
-// What reading a file answers, with the game: all zero where the file is refused.
-#[derive(Clone, Copy)]
-pub struct Reading {
-    pub answer: Answer,
-    pub game: Game,
 }
 
 impl Game {

@@ -11,9 +11,11 @@ mod position;
 mod question;
 mod reader;
 mod reading;
+mod refusal;
 
-pub use command::{Command, Found, command_at};
-pub use game::{Answer, Game, Limits, Reading, Sizes};
+pub use command::{Command, Unread, command_at};
+pub use game::{Game, Limits, Sizes};
 pub use position::position_form;
 pub use question::{has_state, is_rule_of, is_within};
 pub use reader::{CommandReader, read_command};
+pub use refusal::{Question, Refusal};

@@ -1,9 +1,10 @@
-// Questions 2 and 19, put to what stands at an offset; 3 to 7, put to one command after the game so far; and question 9.
+// Questions 3 to 7, put to one command after the game so far; and question 9.
 ghost use Rattle.std.specs.Prelude.{◌≡◌, not, true, List, ◌++◌, ℕ, ◌<◌, ◌≤◌, ◌+◌, ◌*◌, length, get_or};
 ghost use Rattle.game.specs.Limits.{max_control, max_states, max_letters, max_rules, max_targets, rule_stride, target_stride};
 ghost use Rattle.game.specs.Sets.{has, within};
 ghost use Rattle.game.specs.Game.{PushdownGame, Rule, Transition, word_of, of_head};
 ghost use Rattle.game.specs.Stored.{rule_bytes, rule_at, target_words, target_at};
+ghost use Rattle.game.specs.Outcome.{asked};
 ghost use Rattle.game.specs.Parts.{Parts, Fit};
 ghost use Rattle.game.specs.Marks.{Filtered, HeadMarks, Headed, letters_marked};
 ghost use Rattle.game.specs.Questions.{
@@ -22,56 +23,45 @@ ghost use Rattle.game.specs.Questions.{
   same_target,
   is_new,
   has_room,
-  ask_found,
   ask,
   any,
   all_below,
   every_head,
 };
 
-use crate::command::{Command, Found};
+use crate::command::Command;
 use crate::filter::{head_slot, is_marked, mark, rule_word, slot_of};
 use crate::game::{Game, Sizes};
+use crate::refusal::Question;
 
-// Questions 2 and 19: 0 for a whole command, or the number of the one that is answered no.
-pub fn ask_found(found: Found) -> u8
-    ensures { result ≡ ask_found found }
-{
-    match found {
-        Found::Next(_, _) => 0,
-        Found::Missing => 19,
-        Found::Unknown => 2,
-    }
-}
-
-// Questions 3 to 7: 0, or the number of the first that is answered no.
+// Questions 3 to 7: the first that is answered no.
 pub fn ask_command(
     sizes: Sizes,
     rules: &[u8],
     targets: &[u32],
     marks: &[u64],
     command: Command,
-) -> u8
+) -> Result<(), Question>
     requires { (sizes.control ≤ max_states) × (sizes.states ≤ max_states) × Fit sizes rules.now targets.now marks.now }
     ensures { (g : PushdownGame) → Parts g sizes rules.now targets.now → Filtered g marks.now
-        → result ≡ ask g command }
+        → asked result ≡ ask g command }
 {
     if !is_in_order(sizes.states, command) {
-        return 3;
+        return Err(Question::Order);
     }
     if !is_in_range(sizes.control, sizes.states, sizes.letters, command) {
-        return 4;
+        return Err(Question::Range);
     }
     if !is_bottom_kept(command) {
-        return 5;
+        return Err(Question::Bottom);
     }
     if !is_new(sizes, rules, targets, marks, command) {
-        return 6;
+        return Err(Question::New);
     }
     if !is_room(sizes.rulecount, sizes.targetcount, command) {
-        return 7;
+        return Err(Question::Room);
     }
-    0
+    Ok(())
 }
 
 // 3. Is 01 the first command, and only there?
@@ -347,8 +337,7 @@ fn is_rule_stored(
     ensures { (rs : List Rule) (t : List ℕ) → rules.now ≡ rule_bytes rs ++ t → stored ≡ length rs
         → result ≡ any (same_rule from top to count above below) rs }
 {
-    let mut i = 0;
-    while i < stored {
+    for i in 0..stored {
         if is_rule_at(
             rules,
             i * Game::RULE_STRIDE,
@@ -361,7 +350,6 @@ fn is_rule_stored(
         ) {
             return true;
         }
-        i += 1;
     }
     false
 }
@@ -403,12 +391,10 @@ fn is_target_stored(targets: &[u32], stored: usize, state: u8, letter: u8, set: 
     ensures { (ts : List Transition) (t : List ℕ) → targets.now ≡ target_words ts ++ t → stored ≡ length ts
         → result ≡ any (same_target state letter set) ts }
 {
-    let mut i = 0;
-    while i < stored {
+    for i in 0..stored {
         if is_target_at(targets, i * Game::TARGET_STRIDE, state, letter, set) {
             return true;
         }
-        i += 1;
     }
     false
 }
@@ -464,11 +450,9 @@ fn mark_heads(heads: &mut [u64], rules: &[u8], stored: usize)
     requires { (stored * rule_stride ≤ length rules.now) × (stored ≤ max_rules) × (length heads.old ≡ max_control) }
     ensures { Headed rules.now 0 heads.old → Headed rules.now stored heads.new }
 {
-    let mut i = 0;
-    while i < stored {
+    for i in 0..stored {
         let at = i * Game::RULE_STRIDE;
         mark_head(heads, rules[at], rules[at + 1]);
-        i += 1;
     }
 }
 
@@ -489,12 +473,10 @@ fn are_heads_marked(heads: &[u64], control: u8, letters: u8) -> bool
     requires { (length heads.now ≡ max_control) × (control ≤ max_control) × (letters ≤ max_letters) }
     ensures { result ≡ all_below control (letters_marked heads.now letters) }
 {
-    let mut p = 0;
-    while p < control {
+    for p in 0..control {
         if !is_every_letter(heads, p, letters) {
             return false;
         }
-        p += 1;
     }
     true
 }
@@ -504,12 +486,10 @@ fn is_every_letter(heads: &[u64], p: u8, letters: u8) -> bool
     requires { (length heads.now ≡ max_control) × (p < max_control) × (letters ≤ max_letters) }
     ensures { result ≡ letters_marked heads.now letters p }
 {
-    let mut a = 0;
-    while a < letters {
+    for a in 0..letters {
         if !is_marked(heads, head_slot(p, a)) {
             return false;
         }
-        a += 1;
     }
     true
 }

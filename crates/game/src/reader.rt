@@ -4,7 +4,7 @@
 ghost use Rattle.std.specs.Prelude.{◌≡◌};
 ghost use Rattle.game.specs.Command.{command_at};
 
-use crate::command::{Found, command_at};
+use crate::command::{Command, Unread, command_at};
 
 #[derive(Clone, Copy)]
 pub struct CommandReader<'a> {
@@ -31,7 +31,7 @@ impl<'a> CommandReader<'a> {
     }
 
     // What stands at the offset of the next command: the command with the offset after it, to which a caller moves on.
-    pub fn next_command(self) -> Found
+    pub fn next_command(self) -> Result<(Command, usize), Unread>
         ensures { result ≡ command_at self.entry.file.now self.entry.next }
     {
         command_at(self.file, self.next)
@@ -39,7 +39,7 @@ impl<'a> CommandReader<'a> {
 }
 
 // What stands at an offset of a file, by way of a reader.
-pub fn read_command(file: &[u8], at: usize) -> Found
+pub fn read_command(file: &[u8], at: usize) -> Result<(Command, usize), Unread>
     ensures { result ≡ command_at file.now at }
 {
     CommandReader::over(file).moved_to(at).next_command()

@@ -2,26 +2,26 @@
 ghost use Rattle.std.specs.Prelude.{◌≡◌, ◌<◌, ◌≤◌, length};
 ghost use Rattle.game.specs.Limits.{max_control, max_letters, max_rules};
 ghost use Rattle.game.specs.Game.{PushdownGame};
-ghost use Rattle.game.specs.Outcome.{refused};
 ghost use Rattle.game.specs.Questions.{ending, reading};
 ghost use Rattle.game.specs.Stored.{Reports};
 ghost use Rattle.game.specs.Parts.{Parts};
 
-use crate::command::{Command, Found};
-use crate::game::{Answer, Game, Reading, Sizes};
-use crate::question::{ask_command, ask_found, is_every_head};
+use crate::command::Command;
+use crate::game::{Game, Sizes};
+use crate::question::{ask_command, is_every_head};
 use crate::reader::read_command;
+use crate::refusal::{Question, Refusal};
 
 impl Game {
     // The game that a file describes, or the first question that is answered no, with its place.
-    pub fn read(file: &[u8]) -> Reading
+    pub fn read(file: &[u8]) -> Result<Game, Refusal>
         ensures { Reports (reading file.now) result }
     {
         if file.len() < 1 {
-            return refuse(1, 0);
+            return Err(Question::Length.at(0));
         }
         if Game::MAX_FILE < file.len() {
-            return refuse(1, 0);
+            return Err(Question::Length.at(0));
         }
         let mut sizes = Sizes::none();
         let mut rules = [0u8; Game::MAX_RULES * Game::RULE_STRIDE];
@@ -30,12 +30,11 @@ impl Game {
         let mut at = 0;
         while at < file.len() {
             let found = read_command(file, at);
-            let Found::Next(command, next) = found else {
-                return refuse(ask_found(found), at);
+            let Ok((command, next)) = found else {
+                return Err(Question::from(found.unwrap_err()).at(at));
             };
-            let number = ask_command(sizes, &rules, &targets, &marks, command);
-            if number != 0 {
-                return refuse(number, at);
+            if let Err(question) = ask_command(sizes, &rules, &targets, &marks, command) {
+                return Err(question.at(at));
             }
             if let Command::End = command {
                 return close(file.len(), at, sizes, rules, targets);
@@ -43,17 +42,7 @@ impl Game {
             sizes = sizes.with(&mut rules, &mut targets, &mut marks, command);
             at = next;
         }
-        refuse(8, file.len())
-    }
-}
-
-// A refusal, with the game all zero.
-fn refuse(question: u8, place: usize) -> Reading
-    ensures { Reports (refused question place) result }
-{
-    Reading {
-        answer: Answer::Refused { question, place },
-        game: Game::empty(),
+        Err(Question::Last.at(file.len()))
     }
 }
 
@@ -64,29 +53,26 @@ fn close(
     sizes: Sizes,
     rules: [u8; Game::MAX_RULES * Game::RULE_STRIDE],
     targets: [u32; Game::MAX_TARGETS * Game::TARGET_STRIDE],
-) -> Reading
+) -> Result<Game, Refusal>
     requires { (at < size) × (sizes.rulecount ≤ max_rules) × (sizes.control ≤ max_control) × (sizes.letters ≤ max_letters) }
     ensures { (g : PushdownGame) → Parts g sizes rules targets → Reports (ending size at g) result }
 {
     let after = at + 1;
     if after != size {
-        return refuse(8, at);
+        return Err(Question::Last.at(at));
     }
     if !is_every_head(&rules, sizes.rulecount, sizes.control, sizes.letters) {
-        return refuse(9, at);
+        return Err(Question::Heads.at(at));
     }
-    Reading {
-        answer: Answer::Done,
-        game: Game {
-            control: sizes.control,
-            states: sizes.states,
-            letters: sizes.letters,
-            abelard: sizes.abelard,
-            finals: sizes.finals,
-            rulecount: sizes.rulecount,
-            rules,
-            targetcount: sizes.targetcount,
-            targets,
-        },
-    }
+    Ok(Game {
+        control: sizes.control,
+        states: sizes.states,
+        letters: sizes.letters,
+        abelard: sizes.abelard,
+        finals: sizes.finals,
+        rulecount: sizes.rulecount,
+        rules,
+        targetcount: sizes.targetcount,
+        targets,
+    })
 }

@@ -135,11 +135,11 @@ module _ {g : PushdownGame} {sizes : Sizes} {rules : List ℕ} (h : Stands g siz
   -- none: the field is that of a lost position
   pub is_lost : number ≡ no_worth → {field : ℕ}
       → field ≡ lost_field g (automaton_of sizes es) p (get_or w 0 0) (worths (automaton_of sizes es) (drop 1 w))
-      → done (lost field) ≡ done (verdict g es p w)
+      → lost field ≡ verdict g es p w
   unfolding verdict_of
   is_lost n f =
       let same = f ∙ ap (λ (s : Sizes). lost_field g (automaton_of s es) p (get_or w 0 0) (worths (automaton_of s es) (drop 1 w))) h.sized in
-      ap done (ap lost same ∙ sym (by-bound none (coded_none held (sym is_code ∙ n))))
+      ap lost same ∙ sym (by-bound none (coded_none held (sym is_code ∙ n)))
 
   module _ (n : number ≡ no_worth → ⊥) where
     pub strict : number < no_worth
@@ -148,26 +148,26 @@ module _ {g : PushdownGame} {sizes : Sizes} {rules : List ℕ} (h : Stands g siz
     some-bound : bound ≡ some number
     some-bound = coded-some held (omega (arith, is_code, strict)) ∙ ap some (sym is_code)
 
-    pub is-target : number ≡ 0 → done target ≡ done (verdict g es p w)
+    pub is-target : number ≡ 0 → target ≡ verdict g es p w
     unfolding verdict_of
-    is-target z = ap done (sym (by-bound (some number) some-bound ∙ rw (eq-eqb number 0 z)))
+    is-target z = sym (by-bound (some number) some-bound ∙ rw (eq-eqb number 0 z))
 
     module _ (z : number ≡ 0 → ⊥) {owner : Bool} (o : owner ≡ has sizes.abelard p) where
       owned : is_abelard g p ≡ owner
       owned = sym (o ∙ ap (λ (s : Sizes). has s.abelard p) h.sized)
 
-      pub is-abelard : owner ≡ true → done (abelard number) ≡ done (verdict g es p w)
+      pub is-abelard : owner ≡ true → abelard number ≡ verdict g es p w
       unfolding verdict_of to_move
-      is-abelard t = ap done (sym (by-bound (some number) some-bound ∙ rw (ne_eqb number 0 z, owned ∙ t)))
+      is-abelard t = sym (by-bound (some number) some-bound ∙ rw (ne_eqb number 0 z, owned ∙ t))
 
       pub is-eloise : owner ≡ false → {field : ℕ}
           → field ≡ coded (least_over (head_rule (automaton_of sizes es) (worths (automaton_of sizes es) (drop 1 w)) p (get_or w 0 0) number) es)
           → {rule : ℕ} → ((x : Option ℕ) → field ≡ coded x → Fielded x → rule ≡ or_zero (field_number x))
-          → ((x : Entry) → x ∈ es → x.rule < 2 ^ 32) → done (eloise rule number) ≡ done (verdict g es p w)
+          → ((x : Entry) → x ∈ es → x.rule < 2 ^ 32) → eloise rule number ≡ verdict g es p w
       unfolding verdict_of to_move advice_at
       is-eloise t f {rule} r fields =
           let least : Option ℕ = least_over (head_rule G below-it p (get_or w 0 0) number) es in
           let q = f ∙ ap (λ (s : Sizes). coded (least_over (head_rule (automaton_of s es) (worths (automaton_of s es) (drop 1 w)) p (get_or w 0 0) number) es)) h.sized in
           let told : rule ≡ or_zero (field_number least) = r least q (fielded G below-it p (get_or w 0 0) number es fields) in
-          ap (λ (k : ℕ). done (eloise k number)) told
-          ∙ ap done (sym (by-bound (some number) some-bound ∙ rw (ne_eqb number 0 z, owned ∙ t)))
+          ap (λ (k : ℕ). eloise k number) told
+          ∙ sym (by-bound (some number) some-bound ∙ rw (ne_eqb number 0 z, owned ∙ t))

@@ -23,7 +23,8 @@ use Rattle.judge.proofs.Range.{worths-append}
 use Rattle.judge.specs.PositionLaws.{in_bytes}
 use Rattle.judge.specs.Verdict.{lost, target, to_move, successor_worth, losing_field, lost_field, lost_field_of, verdict_of, verdict_over, verdict, verdict_of_bytes, judging_game, judging}
 use Rattle.judge.proofs.LostLaws.{none_or}
-use Rattle.judge.specs.Judged.{judged}
+use Rattle.judge.specs.Judged.{judged, field_of}
+use Rattle.std.specs.Prelude.{Option as Optional, Ok}
 use Rattle.judge.specs.declared.verdict.Verdict.TheVariants.{Lost}
 use Rattle.judge.specs.LostField.{bound_after, NamesLowest, NamesNone, Names, SaysLost}
 
@@ -144,5 +145,5 @@ module _ (file words : List ℕ) (p a : ℕ) (rest : List ℕ) where
       }
 
   -- of whatever keeps the promise of `judge`
-  pub returned-lost : (rule : ℕ) → judged (Lost rule) ≡ judging file words (p ∷ a ∷ rest) → SaysLost file words p a rest rule
-  returned-lost rule e = judged-lost rule (sym e)
+  pub returned-lost : (rule : Optional ℕ) → judged (Ok (Lost rule)) ≡ judging file words (p ∷ a ∷ rest) → SaysLost file words p a rest (field_of rule)
+  returned-lost rule e = judged-lost (field_of rule) (sym e)

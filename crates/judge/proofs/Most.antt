@@ -7,7 +7,9 @@ use Rattle.std.proofs.Math.Path.{refl}
 use Rattle.std.proofs.Math.Option.{Option, none, some}
 use Rattle.game.specs.Limits.{max_rounds, max_stack}
 use Rattle.game.specs.Game.{PushdownGame}
-use Rattle.game.specs.Outcome.{done}
+use Rattle.std.specs.Prelude.{Result, Ok, Err}
+use Rattle.game.specs.Outcome.{done, number}
+use Rattle.game.specs.declared.refusal.Refusal.{Refusal}
 use Rattle.game.specs.Numbers.{is_one_of, file_numbers, table_numbers, position_numbers, judge_numbers}
 use Rattle.game.specs.OutcomeLaws.{done-same, after-done, RefusedBy, by-none, by_after, by_front, by-back}
 use Rattle.game.specs.Questions.{any, reading}
@@ -26,7 +28,7 @@ use Rattle.judge.specs.Verdict.{Verdict, target, eloise, abelard, to_move, verdi
 use Rattle.judge.specs.PositionLaws.{in_bytes}
 use Rattle.judge.specs.Judged.{judged}
 use Rattle.judge.specs.declared.verdict.Verdict.{Verdict as Answered}
-use Rattle.judge.specs.declared.verdict.Verdict.TheVariants.{Lost, Target, Eloise, Abelard, Refused}
+use Rattle.judge.specs.declared.verdict.Verdict.TheVariants.{Lost, Target, Eloise, Abelard}
 use Rattle.judge.specs.Most.{most_bound, bound_in, returned_bound}
 
 -- a bound on a stack of h letters is at most h × (2^R − 1)
@@ -94,23 +96,23 @@ module _ (file words position : List ℕ) where
 -- Of whatever keeps the promise of `judge`:
 module _ (file words position : List ℕ) where
   -- the bound that it returns is at most 256 × (2^R − 1), and below 2^48,
-  pub returned-most : (r : Answered) → judged r ≡ judging file words position → returned_bound r ≤ most_bound
+  pub returned-most : (r : Result Answered Refusal) → judged r ≡ judging file words position → returned_bound r ≤ most_bound
   unfolding returned_bound bound_in
-  returned-most (Lost rule) e = omega arith
-  returned-most Target e = omega arith
-  returned-most (Eloise rule b) e = judged-most file words position (eloise rule b) (sym e)
-  returned-most (Abelard b) e = judged-most file words position (abelard b) (sym e)
-  returned-most (Refused question place) e = omega arith
+  returned-most (Ok (Lost rule)) e = omega arith
+  returned-most (Ok Target) e = omega arith
+  returned-most (Ok (Eloise rule b)) e = judged-most file words position (eloise rule b) (sym e)
+  returned-most (Ok (Abelard b)) e = judged-most file words position (abelard b) (sym e)
+  returned-most (Err refusal) e = omega arith
 
-  pub returned-below : (r : Answered) → judged r ≡ judging file words position → returned_bound r < 2 ^ 48
+  pub returned-below : (r : Result Answered Refusal) → judged r ≡ judging file words position → returned_bound r < 2 ^ 48
   returned-below r e = omega (arith, returned-most r e)
 
   -- and it refuses by 1 to 9, 19, 13 or 14,
-  pub returned-numbers : (question place : ℕ) → judged (Refused question place) ≡ judging file words position
-      → is_one_of question judge_numbers ≡ true
-  returned-numbers question place e = judge-numbers file words position question place (sym e)
+  pub returned-numbers : (refusal : Refusal) → judged (Err refusal) ≡ judging file words position
+      → is_one_of (number refusal.question) judge_numbers ≡ true
+  returned-numbers refusal e = judge-numbers file words position (number refusal.question) refusal.place (sym e)
 
   -- never by 15.
-  pub no-fifteen : (place : ℕ) → judged (Refused 15 place) ≡ judging file words position → ⊥
+  pub no-fifteen : (refusal : Refusal) → number refusal.question ≡ 15 → judged (Err refusal) ≡ judging file words position → ⊥
   unfolding any
-  no-fifteen place e = clash (returned-numbers 15 place e) refl
+  no-fifteen refusal n e = clash (returned-numbers refusal e) (rw n)

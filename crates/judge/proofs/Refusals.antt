@@ -4,20 +4,17 @@ use mathlib.Core.Path.{◌≡◌, refl, sym, ap, subst, ◌∙◌}
 use mathlib.Core.List.{List, [], ◌∷◌}
 use native.Mathlib.Omega.{arith}
 use lib.ListN.{length, get_or, drop, take, length-drop}
-use types.Run.{OneOf, miss}
-use denote.Enum.Declared.{tag_of}
 use Rattle.game.specs.Game.{PushdownGame}
 use Rattle.game.specs.ListLaws.{◌∈◌}
-use Rattle.game.specs.Outcome.{Outcome, done, refused, after, answer, said}
+use Rattle.game.specs.Outcome.{Outcome, done, refused, after, number, said}
 use Rattle.game.specs.Position.{form}
 use Rattle.game.specs.Questions.{reading}
-use Rattle.game.specs.Stored.{sizes_of, Reports}
+use Rattle.game.specs.Stored.{sizes_of, as_stored, Reports}
 use Rattle.game.specs.Held.{Held, safe, Read}
-use Rattle.game.specs.declared.game.Answer.{Answer}
-use Rattle.game.specs.declared.game.Answer.TheVariants.{Done, Refused}
-use Rattle.game.specs.declared.game.Reading.{Reading}
+use Rattle.std.specs.Prelude.{Result, Err}
+use Rattle.game.specs.declared.game.Game.{Game}
+use Rattle.game.specs.declared.refusal.Refusal.{Refusal}
 use Rattle.game.specs.declared.game.Sizes.{Sizes}
-use Rattle.game.specs.contracts.game.Answer as AnswerIs
 use Rattle.table.specs.Table.{entries_of, table_form}
 use Rattle.table.specs.FormLaws.{accepted}
 use Rattle.table.specs.OrderLaws.{accepted-in-order}
@@ -25,35 +22,28 @@ use Rattle.table.specs.Rows.{UsedPart}
 use Rattle.judge.specs.Verdict.{Verdict, verdict, verdict_of_bytes, judging_game, judging}
 use Rattle.judge.specs.PositionLaws.{InBytes, in_bytes}
 use Rattle.judge.proofs.Recursion.{below_top, top-letter}
-use Rattle.judge.specs.Judged.{judged, refused_as}
+use Rattle.judge.specs.Judged.{judged}
 use Rattle.judge.specs.Machine.{Young, Asked}
 
--- an answer that is not done refuses whatever comes after it
-pub refusal-told : {A : Type 0} (o : Outcome A) (a : Answer) → said a ≡ answer o → OneOf (1 ∷ []) (tag_of AnswerIs.the_type a) → (next : A → Outcome Verdict) → judged (refused_as a) ≡ after o next
+-- a refusal refuses whatever comes after it
+pub refusal-told : {A : Type 0} (o : Outcome A) (refusal : Refusal) → refused (number refusal.question) refusal.place ≡ o → (next : A → Outcome Verdict)
+    → judged (Err refusal) ≡ after o next
 unfolding after
-refusal-told (done x) Done e t next = absurd (miss (1 ∷ []) 0 tt t)
-refusal-told (refused n p) Done e t next = absurd (miss (1 ∷ []) 0 tt t)
-refusal-told (done x) (Refused q k) e t next = absurd (let z : ◌≡◌ {A = ℕ} 0 1 = cc in omega arith)
-refusal-told (refused n p) (Refused q k) e t next = cc
-
-pub plain : (o : Outcome (Unit {0})) → answer o ≡ o
-plain (done u) = refl
-plain (refused n p) = refl
+refusal-told (done x) refusal e next = absurd (let z : ◌≡◌ {A = ℕ} 0 1 = cc in omega arith)
+refusal-told (refused n p) refusal e next = cc
 
 module _ (g : PushdownGame) (words position : List ℕ) where
   -- 13 is answered no
-  pub no_table : (a : Answer) → said a ≡ table_form g words → OneOf (1 ∷ []) (tag_of AnswerIs.the_type a) → judged (refused_as a) ≡ judging_game g words position
+  pub no_table : (refusal : Refusal) → said {A = Unit {0}} (Err refusal) ≡ table_form g words → judged (Err refusal) ≡ judging_game g words position
   unfolding judging_game
-  no_table a e t = refusal-told (table_form g words) a (e ∙ sym (plain (table_form g words))) t _
+  no_table refusal e = refusal-told (table_form g words) refusal e _
 
-  module _ (formed : Answer) (e : said formed ≡ table_form g words) (d : formed ≡ Done) where
-    pub table_done : table_form g words ≡ done tt
-    table_done = sym e ∙ ap said d
-
+  module _ (table_done : table_form g words ≡ done tt) where
     -- 14 is answered no
-    pub no-position : (a : Answer) → said a ≡ form g.control g.letters position → OneOf (1 ∷ []) (tag_of AnswerIs.the_type a) → judged (refused_as a) ≡ judging_game g words position
+    pub no-position : (refusal : Refusal) → said {A = Unit {0}} (Err refusal) ≡ form g.control g.letters position
+        → judged (Err refusal) ≡ judging_game g words position
     unfolding judging_game after
-    no-position a f t = rw table_done (refusal-told (form g.control g.letters position) a (f ∙ sym (plain (form g.control g.letters position))) t _)
+    no-position refusal f = rw table_done (refusal-told (form g.control g.letters position) refusal f _)
 
     -- both are passed: the verdict is that over the part of the table that is used
     pub both-passed : form g.control g.letters position ≡ done tt → (part : List ℕ) → UsedPart words part
@@ -69,19 +59,24 @@ module _ (g : PushdownGame) (words position : List ℕ) where
 pub young : (g : PushdownGame) (words : List ℕ) → table_form g words ≡ done tt → Young words
 young g words e x m = (accepted g words e x m).date
 
+not_read : (o : Outcome PushdownGame) (refusal : Refusal) → said {A = Game} (Err refusal) ≡ as_stored o → refused (number refusal.question) refusal.place ≡ o
+not_read (done g) refusal e = absurd (let z : ◌≡◌ {A = ℕ} 0 1 = cc in omega arith)
+not_read (refused n k) refusal e = cc
+
 -- a file that is refused
-pub no-file : (file words position : List ℕ) (r : Reading) → Reports (reading file) r → (a : Answer) → a ≡ r.answer → OneOf (1 ∷ []) (tag_of AnswerIs.the_type a) → judged (refused_as a) ≡ judging file words position
+pub no-file : (file words position : List ℕ) (r : Result Game Refusal) → Reports (reading file) r → (refusal : Refusal) → r ≡ Err refusal
+    → judged (Err refusal) ≡ judging file words position
 unfolding judging
-no-file file words position r h a e t = refusal-told (reading file) a (ap said e ∙ h.answers) t _
+no-file file words position r h refusal e = refusal-told (reading file) refusal (not_read (reading file) refusal (ap said (sym e) ∙ h)) _
 
 -- and one that was read
-pub file-read : (file words position : List ℕ) (r : Reading) (x : Read file r) → judging file words position ≡ judging_game x.game words position
+pub file-read : (file words position : List ℕ) (held : Game) (x : Read file held) → judging file words position ≡ judging_game x.game words position
 unfolding judging after
-file-read file words position r x = rw x.reads
+file-read file words position held x = rw x.reads
 
 -- the position's test by a game's sizes
-pub by-game : (g : PushdownGame) (sizes : Sizes) (position : List ℕ) → sizes ≡ sizes_of g → (a : Answer) → said a ≡ form sizes.control sizes.letters position → said a ≡ form g.control g.letters position
-by-game g sizes position e a f = f ∙ ap (λ (s : Sizes). form s.control s.letters position) e
+pub by-game : (g : PushdownGame) (sizes : Sizes) (position : List ℕ) → sizes ≡ sizes_of g → (o : Outcome (Unit {0})) → o ≡ form sizes.control sizes.letters position → o ≡ form g.control g.letters position
+by-game g sizes position e o f = f ∙ ap (λ (s : Sizes). form s.control s.letters position) e
 
 -- what the verdict asks
 pub ready : (g : PushdownGame) (sizes : Sizes) (rules : List ℕ) → Held g sizes rules → (words position : List ℕ) → table_form g words ≡ done tt

@@ -11,6 +11,7 @@ ghost use Rattle.game.specs.Held.{Held, Safe};
 ghost use Rattle.table.specs.Table.{entries_of};
 ghost use Rattle.table.specs.Rows.{Sorted};
 ghost use Rattle.judge.specs.Worth.{is_none, step};
+ghost use Rattle.judge.specs.Judged.{field_of};
 ghost use Rattle.judge.specs.Verdict.{successor_worth, losing_field, lost_field};
 ghost use Rattle.judge.specs.Machine.{automaton_of, Numbers, LostStates, head_lost};
 
@@ -18,23 +19,23 @@ use crate::worth::{NONE, is_of_head};
 use game::{Game, Sizes, has_state, is_rule_of};
 use table::{EntryWords, start_of};
 
-// The rule field of a lost position with the head (p, a), by the worths of what lies below the top: 0 if it is Éloise's.
-pub fn lost_field(
+// The rule of a lost position with the head (p, a), by the worths of what lies below the top: none if it is Éloise's.
+pub fn lost_rule(
     sizes: Sizes,
     rules: &[u8],
     table: &[u32],
     p: u8,
     a: u8,
     below: &[u64; Game::MAX_STATES as usize],
-) -> u32
+) -> Option<u32>
     requires { Safe sizes rules.now × Sorted table.now }
     ensures { (g : PushdownGame) → Held g sizes rules.now → (n : Numbers sizes.states below.now)
-        → result ≡ lost_field g (automaton_of sizes (entries_of table.now)) p a n.worths }
+        → field_of result ≡ lost_field g (automaton_of sizes (entries_of table.now)) p a n.worths }
 {
     if !has_state(sizes.abelard, p) {
-        return 0;
+        return None;
     }
-    losing_field(sizes, rules, table, p, a, lost_states(sizes.states, below))
+    losing_rule(sizes, rules, table, p, a, lost_states(sizes.states, below))
 }
 
 // The states without a worth.
@@ -43,11 +44,9 @@ fn lost_states(states: u8, below: &[u64; Game::MAX_STATES as usize]) -> u32
     ensures { (n : Numbers states below.now) → LostStates states result n.worths }
 {
     let mut set = 0;
-    let mut q = 0;
-    while q < states {
+    for q in 0..states {
         let at = q as usize;
         set = marked(set, q, below[at] == NONE);
-        q += 1;
     }
     set
 }
@@ -63,20 +62,18 @@ fn marked(set: u32, q: u8, lost: bool) -> u32
     set | (1u32 << q)
 }
 
-// The rule field of a lost position of Abelard's with the head (p, a), by the lost states of what lies below the top.
-fn losing_field(sizes: Sizes, rules: &[u8], table: &[u32], p: u8, a: u8, lost: u32) -> u32
+// The rule of a lost position of Abelard's with the head (p, a), by the lost states of what lies below the top.
+fn losing_rule(sizes: Sizes, rules: &[u8], table: &[u32], p: u8, a: u8, lost: u32) -> Option<u32>
     requires { Safe sizes rules.now × Sorted table.now }
     ensures { (g : PushdownGame) → Held g sizes rules.now → (ws : List (Option ℕ)) → LostStates sizes.states lost ws
-        → result ≡ losing_field (automaton_of sizes (entries_of table.now)) ws (rules_of g p a) }
+        → field_of result ≡ losing_field (automaton_of sizes (entries_of table.now)) ws (rules_of g p a) }
 {
-    let mut r = 0;
-    while r < sizes.rulecount {
+    for r in 0..sizes.rulecount {
         if does_lose(sizes, rules, table, r * Game::RULE_STRIDE, p, a, lost) {
-            return r as u32 + 1;
+            return Some(r as u32);
         }
-        r += 1;
     }
-    0
+    None
 }
 
 // The rule at an offset is one of the head and leads to a lost position.
@@ -118,10 +115,8 @@ fn lost_above(sizes: Sizes, table: &[u32], letter: u8, lost: u32) -> u32
         → LostStates sizes.states result (step (automaton_of sizes (entries_of table.now)) letter ws) }
 {
     let mut set = 0;
-    let mut q = 0;
-    while q < sizes.states {
+    for q in 0..sizes.states {
         set = marked(set, q, is_head_lost(table, q, letter, lost));
-        q += 1;
     }
     set
 }
@@ -132,8 +127,7 @@ fn is_head_lost(table: &[u32], q: u8, a: u8, lost: u32) -> bool
     ensures { result ≡ head_lost q a lost (entries_of table.now) }
 {
     let count = table.len() / EntryWords::STRIDE;
-    let mut i = start_of(table, count, q, a);
-    while i < count {
+    for i in start_of(table, count, q, a)..count {
         let entry = EntryWords::at(table, i);
         if !is_of_head(entry, q, a) {
             return true;
@@ -141,7 +135,6 @@ fn is_head_lost(table: &[u32], q: u8, a: u8, lost: u32) -> bool
         if (entry.set & lost) == 0 {
             return false;
         }
-        i += 1;
     }
     true
 }

@@ -3,7 +3,6 @@ ghost use Rattle.std.specs.Prelude.{◌≡◌, ℕ, ◌≤◌, ◌<◌, min};
 ghost use Rattle.std.proofs.Math.Option.{Option};
 ghost use Rattle.game.specs.Limits.{max_states, max_rounds};
 ghost use Rattle.game.specs.Game.{PushdownGame};
-ghost use Rattle.game.specs.Outcome.{done};
 ghost use Rattle.game.specs.Held.{Held};
 ghost use Rattle.table.specs.Table.{entry_of, entries_of};
 ghost use Rattle.table.specs.Rows.{Sorted};
@@ -17,22 +16,21 @@ ghost use Rattle.judge.specs.Machine.{
   rule_number,
   lesser_rule,
 };
-ghost use Rattle.judge.specs.Judged.{judged, Fielded};
+ghost use Rattle.judge.specs.Judged.{verdict_as, Fielded};
 
-use crate::losing::lost_field;
+use crate::losing::lost_rule;
 use crate::worth::{NONE, entry_worth, head_worth, is_of_head, worths};
 use game::{Game, Sizes, has_state};
 use table::{EntryWords, start_of};
 
-// What judging answers. Unused fields are 0. `Lost` has a rule field: for a position of Abelard's 1 + the number of his lowest rule that
-// leads to a lost position; 0 for a position of Éloise's, and where no rule does, as over some tables from elsewhere.
-#[derive(Clone, Copy)]
+// What is judged of a position. `Lost` has a rule for a position of Abelard's: the number of his lowest rule that leads to a lost position;
+// none for a position of Éloise's, and where no rule does, as over some tables from elsewhere.
+#[derive(Clone, Copy, Debug, PartialEq, Eq)]
 pub enum Verdict {
-    Lost { rule: u32 },
+    Lost { rule: Option<u32> },
     Target,
     Eloise { rule: u32, bound: u64 },
     Abelard { bound: u64 },
-    Refused { question: u8, place: usize },
 }
 
 // The verdict on control state `state` and a stack, top letter first, that are in form, over the used entries of a table in
@@ -40,14 +38,14 @@ pub enum Verdict {
 pub fn verdict_on(sizes: Sizes, rules: &[u8], table: &[u32], state: u8, stack: &[u8]) -> Verdict
     requires { Asked sizes rules.now table.now state stack.now }
     ensures { (g : PushdownGame) → Held g sizes rules.now
-        → judged result ≡ done (verdict_is g (entries_of table.now) state stack.now) }
+        → verdict_as result ≡ verdict_is g (entries_of table.now) state stack.now }
 {
     let top = stack[0];
     let below = worths(sizes, table, &stack[1..]);
     let bound = head_worth(table, state, top, sizes.states, &below);
     if bound == NONE {
         return Verdict::Lost {
-            rule: lost_field(sizes, rules, table, state, top, &below),
+            rule: lost_rule(sizes, rules, table, state, top, &below),
         };
     }
     if bound == 0 {
@@ -78,14 +76,12 @@ fn least_rule(
 {
     let count = table.len() / EntryWords::STRIDE;
     let mut least = NONE;
-    let mut i = start_of(table, count, p, a);
-    while i < count {
+    for i in start_of(table, count, p, a)..count {
         let entry = EntryWords::at(table, i);
         if !is_of_head(entry, p, a) {
             return least;
         }
         least = lesser_rule(least, entry, states, below, bound);
-        i += 1;
     }
     least
 }

@@ -2,12 +2,13 @@
 use Rattle.std.specs.Prelude.{ℕ, zero, suc, ◌+◌, ◌≤◌, Bool, cond, ◌&&◌, List, [], ◌∷◌, ◌++◌, length, get_or, leb}
 use Rattle.game.specs.Limits.{max_stack, rule_stride}
 use Rattle.game.specs.Game.{Rule, PushdownGame, rules_of}
-use Rattle.game.specs.Outcome.{Outcome, done, refused, said}
+use Rattle.game.specs.Outcome.{Outcome, done, refused, number, said}
 use Rattle.game.specs.Questions.{reading}
 use Rattle.game.specs.Stored.{padded}
 use Rattle.game.specs.NumberLaws.{number_is}
 use Rattle.game.specs.Win.{Position, in_form, successor}
-use Rattle.game.specs.declared.game.Answer.{Answer}
+use Rattle.std.specs.Prelude.{Result, Ok, Err}
+use Rattle.game.specs.declared.refusal.Refusal.{Refusal}
 use Rattle.session.specs.declared.moving.Played.{Played}
 use Rattle.session.specs.declared.playing.Session.{Session}
 
@@ -81,11 +82,16 @@ unfoldable pub move : List ℕ → Session → ℕ → Moved
 move file s n = moved s (moving_in (reading file) s n)
 
 -- what the code answers and leaves
-abbrev pub left : Answer → Session → Moved
+abbrev pub left : Result (Unit {0}) Refusal → Session → Moved
 left a s = record { answer = said a; session = s }
 
 abbrev pub handed : Played → Moved
-handed r = left r.answer (session r.state r.stack r.height)
+handed r = left r.answer r.session
+
+-- a move of a session, by the session after it
+abbrev pub told : Session → Result Session Refusal → Moved
+told s (Ok t) = record { answer = done tt; session = t }
+told s (Err refusal) = record { answer = refused (number refusal.question) refusal.place; session = s }
 
 -- what the code needs of a rule stored at an offset and of a height before it plays the rule
 pub record Playable (rules : List ℕ) (at height : ℕ) : Type 0 where

@@ -3,12 +3,10 @@ ghost use Rattle.std.specs.Prelude.{◌≡◌, ◌&&◌, ◌++◌, ◌+◌, ◌-
 ghost use Rattle.game.specs.Game.{PushdownGame, word_of};
 ghost use Rattle.game.specs.Held.{Held};
 ghost use Rattle.game.specs.Limits.{max_stack};
-ghost use Rattle.game.specs.Outcome.{refused};
 ghost use Rattle.game.specs.Questions.{bottom_last};
 ghost use Rattle.game.specs.Stored.{rule_at, padded};
 ghost use Rattle.game.specs.Win.{letters_below, successor};
 ghost use Rattle.session.specs.Session.{
-  session,
   top_first,
   bottom_first,
   session_in_form,
@@ -17,129 +15,99 @@ ghost use Rattle.session.specs.Session.{
   moving,
   moved,
   move,
+  told,
   handed,
 };
 
-use game::{Answer, Game, Sizes, is_rule_of};
+use crate::playing::Session;
+use game::{Game, Question, Refusal, Sizes, is_rule_of};
 
-// What a move answers, and the session afterwards: state, stack (bottom letter first) and height.
-#[derive(Clone, Copy)]
+// What a move answers, and the session afterwards, which a refused move leaves as it was.
+#[derive(Clone, Copy, Debug, PartialEq, Eq)]
 pub struct Played {
-    pub answer: Answer,
-    pub state: u8,
-    pub stack: [u8; Game::MAX_STACK],
-    pub height: usize,
+    pub answer: Result<(), Refusal>,
+    pub session: Session,
 }
 
 // The rule of a number played in a session of the game that a file describes. The session is handed back as it was where a
 // question is answered no; after a move its cells from the height up are 0.
-pub fn play_move(
-    file: &[u8],
-    state: u8,
-    stack: [u8; Game::MAX_STACK],
-    height: usize,
-    rule: u32,
-) -> Played
-    ensures { handed result ≡ move file.now (session state stack height) rule }
+pub fn play_move(file: &[u8], session: Session, rule: u32) -> Played
+    ensures { handed result ≡ move file.now session rule }
 {
-    let reading = Game::read(file);
-    let answer = reading.answer;
-    let Answer::Done = answer else {
-        return Played {
-            answer,
-            state,
-            stack,
-            height,
-        };
-    };
-    let game = reading.game;
+    match after_move(file, session, rule) {
+        Ok(after) => Played {
+            answer: Ok(()),
+            session: after,
+        },
+        Err(refusal) => Played {
+            answer: Err(refusal),
+            session,
+        },
+    }
+}
+
+// The session after the move.
+pub fn after_move(file: &[u8], session: Session, rule: u32) -> Result<Session, Refusal>
+    ensures { told session result ≡ move file.now session rule }
+{
+    let game = Game::read(file)?;
     let rules = game.rules;
-    move_in(game.sizes(), &rules, state, stack, height, rule)
+    move_in(game.sizes(), &rules, session, rule)
 }
 
 // 14 and 16 in a game that was read, then the rule is played.
-fn move_in(
-    sizes: Sizes,
-    rules: &[u8],
-    state: u8,
-    stack: [u8; Game::MAX_STACK],
-    height: usize,
-    rule: u32,
-) -> Played
+fn move_in(sizes: Sizes, rules: &[u8], session: Session, rule: u32) -> Result<Session, Refusal>
     requires { (g : PushdownGame) × Held g sizes rules.now }
-    ensures { (g : PushdownGame) → Held g sizes rules.now
-        → handed result ≡ moved (session state stack height) (moving g (session state stack height) rule) }
+    ensures { (g : PushdownGame) → Held g sizes rules.now → told session result ≡ moved session (moving g session rule) }
 {
-    if !is_session(sizes.control, sizes.letters, state, &stack, height) {
-        return refuse(14, state, stack, height);
+    if !is_session(sizes.control, sizes.letters, session) {
+        return Err(Question::Position.at(0));
     }
     let n = rule as usize;
     if sizes.rulecount <= n {
-        return refuse(16, state, stack, height);
+        return Err(Question::Head.at(0));
     }
     let at = n * Game::RULE_STRIDE;
-    if !is_rule_of(rules, at, state, stack[height - 1]) {
-        return refuse(16, state, stack, height);
+    if !is_rule_of(rules, at, session.state, session.stack[session.height - 1]) {
+        return Err(Question::Head.at(0));
     }
-    replace_top(rules, at, state, stack, height)
+    replace_top(rules, at, session)
 }
 
 // 17. Is the new stack at most 256 letters? Then the rule stored at an offset replaces the top letter by its word.
-fn replace_top(
-    rules: &[u8],
-    at: usize,
-    state: u8,
-    stack: [u8; Game::MAX_STACK],
-    height: usize,
-) -> Played
-    requires { Playable rules.now at height }
-    ensures { handed result
-        ≡ moved (session state stack height) (fitting (successor (rule_at rules.now at 0) (top_first (height - 1) stack))) }
+fn replace_top(rules: &[u8], at: usize, session: Session) -> Result<Session, Refusal>
+    requires { Playable rules.now at session.height }
+    ensures { told session result
+        ≡ moved session (fitting (successor (rule_at rules.now at 0) (top_first (session.height - 1) session.stack))) }
 {
-    let below = height - 1;
-    let to = rules[at + 2];
+    let below = session.height - 1;
     let count = rules[at + 3];
     let top = below + (count as usize);
     if Game::MAX_STACK < top {
-        return refuse(17, state, stack, height);
+        return Err(Question::Height.at(0));
     }
-    let cells = written(stack, below, count, rules[at + 4], rules[at + 5]);
-    Played {
-        answer: Answer::Done,
-        state: to,
+    let cells = written(session.stack, below, count, rules[at + 4], rules[at + 5]);
+    Ok(Session {
+        state: rules[at + 2],
         stack: cells,
         height: top,
-    }
-}
-
-// A refusal at place 0, with the session as it is.
-fn refuse(question: u8, state: u8, stack: [u8; Game::MAX_STACK], height: usize) -> Played
-    ensures { handed result ≡ moved (session state stack height) (refused question 0) }
-{
-    Played {
-        answer: Answer::Refused { question, place: 0 },
-        state,
-        stack,
-        height,
-    }
+    })
 }
 
 // 14. Is the session in form?
-fn is_session(control: u8, letters: u8, state: u8, stack: &[u8], height: usize) -> bool
-    requires { length stack.now ≡ max_stack }
-    ensures { (g : PushdownGame) → control ≡ g.control → letters ≡ g.letters
-        → result ≡ session_in_form g (session state stack.now height) }
+fn is_session(control: u8, letters: u8, session: Session) -> bool
+    ensures { (g : PushdownGame) → control ≡ g.control → letters ≡ g.letters → result ≡ session_in_form g session }
 {
-    if height < 1 {
+    if session.height < 1 {
         return false;
     }
-    if Game::MAX_STACK < height {
+    if Game::MAX_STACK < session.height {
         return false;
     }
-    if control <= state {
+    if control <= session.state {
         return false;
     }
-    is_stack(letters, stack, height)
+    is_stack(letters, &session.stack, session.height)
 }
 
 // The letters below the height are in range, the lowest is the bottom letter and no other is.
@@ -147,8 +115,7 @@ fn is_stack(letters: u8, stack: &[u8], height: usize) -> bool
     requires { (1 ≤ height) × (height ≤ length stack.now) }
     ensures { result ≡ letters_below letters (top_first height stack.now) && bottom_last (top_first height stack.now) }
 {
-    let mut i = height - 1;
-    while 0 < i {
+    for i in (1..height).rev() {
         let a = stack[i];
         if a == 0 {
             return false;
@@ -156,7 +123,6 @@ fn is_stack(letters: u8, stack: &[u8], height: usize) -> bool
         if letters <= a {
             return false;
         }
-        i -= 1;
     }
     if stack[0] != 0 {
         return false;
@@ -194,10 +160,6 @@ fn cleared(stack: [u8; Game::MAX_STACK], below: usize) -> [u8; Game::MAX_STACK]
     ensures { result ≡ take below stack ++ replicate (max_stack - below) 0 }
 {
     let mut cells = stack;
-    let mut i = below;
-    while i < Game::MAX_STACK {
-        cells[i] = 0;
-        i += 1;
-    }
+    cells[below..].fill(0);
     cells
 }

@@ -13,7 +13,8 @@ use Rattle.game.specs.Limits.{max_entries}
 use Rattle.game.specs.ListLaws.{both}
 use Rattle.game.specs.Game.{PushdownGame}
 use Rattle.game.specs.Outcome.{Outcome, done, refused, after, said}
-use Rattle.game.specs.declared.game.Answer.{Answer}
+use Rattle.std.specs.Prelude.{Result}
+use Rattle.game.specs.declared.refusal.Refusal.{Refusal}
 use Rattle.table.specs.Table.{entry_stride, length_in_form, follows, passes, form_from, table_form}
 use Rattle.table.specs.Rows.{words_at}
 use Rattle.table.specs.declared.entry.EntryWords.{EntryWords}
@@ -127,7 +128,7 @@ cut_at g words k f pos h =
 -- The same of what `table_form` and `entries_form` promise: an answer of one call over the whole table is that of two calls over its parts.
 -- The first is made from index 0, with any entry before.
 pub two-calls : (g : PushdownGame) (words : List ℕ) (k : ℕ) → length_in_form (length words) ≡ true → 0 < k → k * entry_stride ≤ length words
-    → (any-before : EntryWords) (whole first second : Answer)
+    → (any-before : EntryWords) (whole first second : Result (Unit {0}) Refusal)
     → said whole ≡ table_form g words
     → said first ≡ form_from g 0 any-before.first any-before.set any-before.rule (take (k * entry_stride) words)
     → said second

@@ -21,62 +21,41 @@ ghost use Rattle.table.specs.Table.{
 };
 
 use crate::entry::EntryWords;
-use game::{Answer, Game, Sizes, has_state, is_rule_of, is_within};
+use game::{Game, Question, Refusal, Sizes, has_state, is_rule_of, is_within};
 
-// 13. Is the table well formed? The state of the pass is the index and the entry before it.
-pub fn table_form(sizes: Sizes, rules: &[u8], words: &[u32]) -> Answer
+// 13. Is the table well formed? Its length, then its entries from index 0 on.
+pub fn table_form(sizes: Sizes, rules: &[u8], words: &[u32]) -> Result<(), Refusal>
     requires { Safe sizes rules.now }
     ensures { (g : PushdownGame) → Held g sizes rules.now → said result ≡ table_form g words.now }
 {
     if !is_length(words.len()) {
-        return Answer::Refused {
-            question: 13,
-            place: 0,
-        };
+        return Err(Question::Table.at(0));
     }
-    let mut before = EntryWords::none();
-    let mut i = 0;
-    while i < words.len() / EntryWords::STRIDE {
-        let entry = EntryWords::at(words, i);
-        if !does_pass(sizes, rules, i, before, entry) {
-            return Answer::Refused {
-                question: 13,
-                place: i,
-            };
-        }
-        before = entry;
-        i += 1;
-    }
-    Answer::Done
+    entries_form(sizes, rules, 0, EntryWords::none(), words)
 }
 
 // 13 of a part of a table, in one pass: the entries from index `first` on, `before` being the one before them. At index 0 there is
-// none, and `before` is not looked at.
+// none, and `before` is not looked at. The state of the pass is the index and the entry before it.
 pub fn entries_form(
     sizes: Sizes,
     rules: &[u8],
     first: usize,
     before: EntryWords,
     words: &[u32],
-) -> Answer
+) -> Result<(), Refusal>
     requires { Safe sizes rules.now × (first + length words.now / entry_stride ≤ max_entries) }
     ensures { (g : PushdownGame) → Held g sizes rules.now
         → said result ≡ form_from g first before.first before.set before.rule words.now }
 {
     let mut last = before;
-    let mut i = 0;
-    while i < words.len() / EntryWords::STRIDE {
+    for i in 0..words.len() / EntryWords::STRIDE {
         let entry = EntryWords::at(words, i);
         if !does_pass(sizes, rules, first + i, last, entry) {
-            return Answer::Refused {
-                question: 13,
-                place: first + i,
-            };
+            return Err(Question::Table.at(first + i));
         }
         last = entry;
-        i += 1;
     }
-    Answer::Done
+    Ok(())
 }
 
 // The length that questions 10 and 13 ask: a multiple of 3 from 3 to 6,144 words.

@@ -13,12 +13,6 @@ is_every_letter-requires c = (c.requires.0, omega (arith, c.loop-p-test.true, c.
 pub returns-then-not-is_every_letter : goal.returns-then-not-is_every_letter
 returns-then-not-is_every_letter c = sym (not-all_below _ _ c.loop-p.p c.loop-p-test.true (sym c.is_every_letter.ensures ∙ c.if-not-is_every_letter.true))
 
-pub overflow_add-p : goal.overflow_add-p
-overflow_add-p c = omega arith
-
-pub loop-p-smaller : goal.loop-p-smaller
-loop-p-smaller c = omega arith
-
 pub loop-p-preserved : goal.loop-p-preserved
 loop-p-preserved c = (omega arith, below_more _ _ c.loop-p.invariant.1 (sym c.is_every_letter.ensures ∙ c.if-not-is_every_letter.false))
 

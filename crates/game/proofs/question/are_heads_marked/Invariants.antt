@@ -4,10 +4,7 @@ use mathlib.Core.Bool.{true}
 use Rattle.game.specs.Marks.{letters_marked}
 use Rattle.game.proofs.question.are_heads_marked.Given as goal
 
--- Every control state below p is marked with every letter. The measure is how many control states are left.
+-- Every control state below p is marked with every letter.
 -- Assumes what the contract requires.
 abbrev pub invariant-loop-p : goal.invariant-loop-p
 invariant-loop-p l = (l.p ≤ l.control) × ((k : ℕ) → k < l.p → letters_marked l.heads l.letters k ≡ true)
-
-abbrev pub decreases-loop-p : goal.decreases-loop-p
-decreases-loop-p l = l.control - l.p

@@ -14,12 +14,6 @@ is_marked-requires c = omega (arith, c.head_slot.ensures, c.requires, c.loop-a-t
 pub returns-then-not-is_marked : goal.returns-then-not-is_marked
 returns-then-not-is_marked c = sym (not-all_below _ _ c.loop-a.a c.loop-a-test.true (ap (marked _) (sym c.head_slot.ensures) ∙ sym c.is_marked.ensures ∙ c.if-not-is_marked.true))
 
-pub overflow_add-a : goal.overflow_add-a
-overflow_add-a c = omega arith
-
-pub loop-a-smaller : goal.loop-a-smaller
-loop-a-smaller c = omega arith
-
 pub loop-a-preserved : goal.loop-a-preserved
 loop-a-preserved c = (omega arith, below_more _ _ c.loop-a.invariant.1 (ap (marked _) (sym c.head_slot.ensures) ∙ sym c.is_marked.ensures ∙ c.if-not-is_marked.false))
 

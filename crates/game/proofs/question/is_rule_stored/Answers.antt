@@ -18,12 +18,6 @@ pub returns-then-is_rule_at : goal.returns-then-is_rule_at
 unfolding same_rule
 returns-then-is_rule_at c = rules-hit (same_rule _ _ _ _ _ _) (λ bytes at n. refl) _ _ c.loop-i.i (omega arith) (sym c.is_rule_at.ensures ∙ c.if-is_rule_at.true)
 
-pub overflow_add-i : goal.overflow_add-i
-overflow_add-i c = omega (arith, c.requires)
-
-pub loop-i-smaller : goal.loop-i-smaller
-loop-i-smaller c = omega arith
-
 pub loop-i-preserved : goal.loop-i-preserved
 loop-i-preserved c = (omega arith, below_more _ _ c.loop-i.invariant.1 (sym c.is_rule_at.ensures ∙ c.if-is_rule_at.false))
 

@@ -17,12 +17,6 @@ is_target_at-requires c = omega (arith, c.requires)
 pub returns-then-is_target_at : goal.returns-then-is_target_at
 returns-then-is_target_at c = targets-hit (same_target _ _ _) _ _ c.loop-i.i (omega arith) (sym c.is_target_at.ensures ∙ c.if-is_target_at.true)
 
-pub overflow_add-i : goal.overflow_add-i
-overflow_add-i c = omega (arith, c.requires)
-
-pub loop-i-smaller : goal.loop-i-smaller
-loop-i-smaller c = omega arith
-
 pub loop-i-preserved : goal.loop-i-preserved
 loop-i-preserved c = (omega arith, below_more _ _ c.loop-i.invariant.1 (sym c.is_target_at.ensures ∙ c.if-is_target_at.false))
 

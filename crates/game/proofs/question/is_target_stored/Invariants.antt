@@ -5,11 +5,8 @@ use Rattle.game.specs.Questions.{same_target}
 use Rattle.game.specs.Stored.{target_at}
 use Rattle.game.proofs.question.is_target_stored.Given as goal
 
--- No transition before place i is the one asked for. The measure is how many transitions are left.
+-- No transition before place i is the one asked for.
 -- Assumes what the contract requires.
 abbrev pub invariant-loop-i : goal.invariant-loop-i
 invariant-loop-i l =
     (l.i ≤ l.stored) × ((k : ℕ) → k < l.i → same_target l.state l.letter l.set (target_at l.targets (k * 3)) ≡ false)
-
-abbrev pub decreases-loop-i : goal.decreases-loop-i
-decreases-loop-i l = l.stored - l.i

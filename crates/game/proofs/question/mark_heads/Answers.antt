@@ -21,12 +21,6 @@ bounds-rules-at-in-loop-i c = omega (arith, c.requires, c.loop-i-test.true)
 pub mark_head-requires : goal.mark_head-requires
 mark_head-requires c = c.loop-i.invariant.1 ∙ c.requires.2
 
-pub overflow_add-i : goal.overflow_add-i
-overflow_add-i c = omega (arith, c.requires, c.loop-i-test.true)
-
-pub loop-i-smaller : goal.loop-i-smaller
-loop-i-smaller c = omega arith
-
 pub loop-i-preserved : goal.loop-i-preserved
 loop-i-preserved c = (omega arith, c.mark_head.ensures.long ∙ c.loop-i.invariant.1, λ h. headed-more _ _ _ _ (c.loop-i.invariant.2 h) c.mark_head.ensures)
 

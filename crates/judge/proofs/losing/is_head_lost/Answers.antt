@@ -32,12 +32,6 @@ returns-then-entry-lost-eq0 c =
     let here = told x.table.now at-loop.i x.q x.a _ entry _ c.is_of_head.ensures _ (c.if-not-is_of_head.false) in
     open-found x.q x.a x.lost x.table.now at-loop.i _ entry here c.requires at-loop.invariant c.loop-i-test.true c.if-entry-lost-eq0.true
 
-pub overflow_add-i : goal.overflow_add-i
-overflow_add-i c = omega arith
-
-pub loop-i-smaller : goal.loop-i-smaller
-loop-i-smaller c = omega arith
-
 pub loop-i-preserved : goal.loop-i-preserved
 loop-i-preserved c =
     let x = c.args in

@@ -11,12 +11,6 @@ is_head_lost-requires c = c.requires.1
 pub marked-set-requires : goal.marked-set-requires
 marked-set-requires c = omega (arith, c.requires.0, c.loop-q-test.true)
 
-pub overflow_add-q : goal.overflow_add-q
-overflow_add-q c = omega (arith, c.requires.0, c.loop-q-test.true)
-
-pub loop-q-smaller : goal.loop-q-smaller
-loop-q-smaller c = omega (arith, c.loop-q-test.true)
-
 pub loop-q-preserved : goal.loop-q-preserved
 loop-q-preserved c =
     let at-loop = c.loop-q in

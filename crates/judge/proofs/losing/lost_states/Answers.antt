@@ -18,12 +18,6 @@ bounds-below-at c = omega (arith, c.requires, c.well_formed)
 pub marked-set-requires : goal.marked-set-requires
 marked-set-requires c = omega (arith, c.requires, c.loop-q-test.true)
 
-pub overflow_add-q : goal.overflow_add-q
-overflow_add-q c = omega (arith, c.requires)
-
-pub loop-q-smaller : goal.loop-q-smaller
-loop-q-smaller c = omega arith
-
 pub loop-q-preserved : goal.loop-q-preserved
 loop-q-preserved c =
     let at-loop = c.loop-q in

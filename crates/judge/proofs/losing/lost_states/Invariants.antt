@@ -5,10 +5,7 @@ use Rattle.judge.specs.Worth.{no_worth}
 use Rattle.judge.proofs.LostRules.{Marked}
 use Rattle.judge.proofs.losing.lost_states.Given as goal
 
--- The states below q without a worth are in the set, and no others (`Marked`). The measure is how many states are left.
+-- The states below q without a worth are in the set, and no others (`Marked`).
 -- Assumes what the contract requires.
 abbrev pub invariant-loop-q : goal.invariant-loop-q
 invariant-loop-q l = Marked (λ (k : ℕ). eqb (get_or l.below k 0) no_worth) l.states l.q l.set
-
-abbrev pub decreases-loop-q : goal.decreases-loop-q
-decreases-loop-q l = l.states - l.q

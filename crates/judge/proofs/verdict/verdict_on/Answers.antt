@@ -8,15 +8,15 @@ head_worth-bound-requires c =
     let lent = asked.lent in
     (lent.safe.states, lent.young, lent.sorted, tamed asked c.worths-below.ensures)
 
-pub lost_field-requires : goal.lost_field-requires
-lost_field-requires c = let lent = c.requires.lent in (lent.safe, lent.sorted)
+pub lost_rule-requires : goal.lost_rule-requires
+lost_rule-requires c = let lent = c.requires.lent in (lent.safe, lent.sorted)
 
 pub returns-then-bound : goal.returns-then-bound
 returns-then-bound c =
     λ g h.
     let asked = c.requires in
     let below = c.worths-below.ensures in
-    is_lost h (found asked below c.head_worth-bound.ensures) c.if-bound.true (c.lost_field.ensures g h (numbers asked below))
+    is_lost h (found asked below c.head_worth-bound.ensures) c.if-bound.true (c.lost_rule.ensures g h (numbers asked below))
 
 pub returns-then-bound-eq0 : goal.returns-then-bound-eq0
 returns-then-bound-eq0 c =

@@ -24,12 +24,6 @@ pub lesser_worth-least-requires : goal.lesser_worth-least-requires
 lesser_worth-least-requires c =
     (c.requires.0, c.requires.3, born-in _ c.loop-i.i (omega (arith, c.loop-i-test.true)) c.requires.1 c.requires.2 _ c.at-entry.ensures)
 
-pub overflow_add-i : goal.overflow_add-i
-overflow_add-i c = omega arith
-
-pub loop-i-smaller : goal.loop-i-smaller
-loop-i-smaller c = omega arith
-
 pub loop-i-preserved : goal.loop-i-preserved
 loop-i-preserved c =
     turn _ c.requires.2 _ _ (head_number c.args.q c.args.a c.args.states c.args.below.now) (worth-away c.args.q c.args.a c.args.states c.args.below.now) c.loop-i.i _ c.loop-i.invariant c.loop-i-test.true _

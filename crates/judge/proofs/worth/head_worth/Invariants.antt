@@ -4,10 +4,7 @@ use Rattle.judge.proofs.Passes.{Passing}
 use Rattle.judge.proofs.worth.head_worth.Given as goal
 
 -- The least worth over the whole table is the lesser of what is in hand and the least over the entries from i on (`Passing`): before
--- the place of the head's key no entry is one of it, and none is after the first that is not. The measure is how many entries are left.
+-- the place of the head's key no entry is one of it, and none is after the first that is not.
 -- Assumes what the contract requires.
 abbrev pub invariant-loop-i : goal.invariant-loop-i
 invariant-loop-i l = Passing (head_number l.q l.a l.states l.below) l.table l.q l.a l.i l.least
-
-abbrev pub decreases-loop-i : goal.decreases-loop-i
-decreases-loop-i l = l.count - l.i

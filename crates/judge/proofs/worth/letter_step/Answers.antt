@@ -17,12 +17,6 @@ offset_bounds-out-at c = omega (arith, c.requires.0)
 pub bounds-out-at : goal.bounds-out-at
 bounds-out-at c = omega (arith, c.requires.0, c.loop-q.invariant.long)
 
-pub overflow_add-q : goal.overflow_add-q
-overflow_add-q c = omega (arith, c.requires.0)
-
-pub loop-q-smaller : goal.loop-q-smaller
-loop-q-smaller c = omega arith
-
 pub loop-q-preserved : goal.loop-q-preserved
 unfolding step_number
 loop-q-preserved c = next _ _ c.loop-q.q _ c.requires.0 c.loop-q.invariant c.loop-q-test.true _ c.head_worth.ensures

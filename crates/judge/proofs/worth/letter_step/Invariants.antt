@@ -2,10 +2,7 @@ use Prim.Native.Nat.{◌-◌}
 use Rattle.judge.proofs.Filling.{Filled, step_number}
 use Rattle.judge.proofs.worth.letter_step.Given as goal
 
--- The first q places hold the least worths of their heads, the others none (`Filled`). The measure is how many states are left.
+-- The first q places hold the least worths of their heads, the others none (`Filled`).
 -- Assumes what the contract requires.
 abbrev pub invariant-loop-q : goal.invariant-loop-q
 invariant-loop-q l = Filled (step_number l.sizes.states l.table l.below l.letter) l.sizes.states l.q l.out
-
-abbrev pub decreases-loop-q : goal.decreases-loop-q
-decreases-loop-q l = l.sizes.states - l.q

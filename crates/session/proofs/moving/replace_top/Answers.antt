@@ -4,7 +4,7 @@ use Rattle.session.proofs.Turn.{too-tall, replaces}
 use Rattle.session.proofs.moving.replace_top.Goals as goal
 
 pub returns-then-top-gt-MAX_STACK : goal.returns-then-top-gt-MAX_STACK
-returns-then-top-gt-MAX_STACK c = c.refuse.ensures ∙ too-tall _ _ _ c.args.stack _ (omega (arith, c.well_formed)) c.requires c.if-top-gt-MAX_STACK.true
+returns-then-top-gt-MAX_STACK c = rw c.at.ensures (too-tall _ _ _ c.args.session.stack _ (omega (arith, c.well_formed)) c.requires c.if-top-gt-MAX_STACK.true)
 
 pub returns : goal.returns
-returns c = replaces _ _ _ c.args.stack _ (omega (arith, c.well_formed)) c.requires c.if-top-gt-MAX_STACK.false _ c.written-cells.ensures
+returns c = replaces _ _ _ c.args.session.stack _ (omega (arith, c.well_formed)) c.requires c.if-top-gt-MAX_STACK.false _ c.written-cells.ensures

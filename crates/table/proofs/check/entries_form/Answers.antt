@@ -15,19 +15,14 @@ at-entry-requires c = room c.loop-i.i _ c.loop-i-test.true
 pub does_pass-requires : goal.does_pass-requires
 does_pass-requires c = c.requires.0
 
-pub overflow_add-i : goal.overflow_add-i
-overflow_add-i c = omega arith
-
 pub returns-then-not-does_pass : goal.returns-then-not-does_pass
 returns-then-not-does_pass c =
     λ g h.
-    sym
+    rw c.at.ensures
+    (sym
     (c.loop-i.invariant.1 g h
     ∙ stops-there g _ _ c.loop-i.i _ _ _ (room c.loop-i.i _ c.loop-i-test.true)
-    (rw c.at-entry.ensures at (sym (c.does_pass.ensures g h) ∙ c.if-not-does_pass.true)))
-
-pub loop-i-smaller : goal.loop-i-smaller
-loop-i-smaller c = omega arith
+    (rw c.at-entry.ensures at (sym (c.does_pass.ensures g h) ∙ c.if-not-does_pass.true))))
 
 pub loop-i-preserved : goal.loop-i-preserved
 loop-i-preserved c = (

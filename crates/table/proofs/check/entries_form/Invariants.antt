@@ -1,5 +1,5 @@
 -- What question 13 says of the part is what it says of its words from place i on, the entry before them in hand. An entry that does not
--- pass is the place. The measure is how many entries are left. Assumes what the contract requires.
+-- pass is the place. Assumes what the contract requires.
 use Prim.Native.Nat.{◌+◌, ◌*◌, ◌-◌, ◌/◌, ◌≤◌}
 use mathlib.Core.Path.{◌≡◌}
 use lib.ListN.{length, drop}
@@ -14,6 +14,3 @@ invariant-loop-i l =
     × ((g : PushdownGame) → Held g l.sizes l.rules
     → form_from g l.first l.fn.before.first l.fn.before.set l.fn.before.rule l.words
     ≡ form_from g (l.first + l.i) l.last.first l.last.set l.last.rule (drop (l.i * 3) l.words))
-
-abbrev pub decreases-loop-i : goal.decreases-loop-i
-decreases-loop-i l = length l.words / 3 - l.i

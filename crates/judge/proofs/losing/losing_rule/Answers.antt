@@ -1,7 +1,7 @@
 use mathlib.Core.Path.{◌∙◌}
 use native.Mathlib.Omega.{arith}
 use Rattle.judge.proofs.LostRules.{scan-start, scan-hit, scan-next, scan-end}
-use Rattle.judge.proofs.losing.losing_field.Goals as goal
+use Rattle.judge.proofs.losing.losing_rule.Goals as goal
 
 pub loop-r-init : goal.loop-r-init
 loop-r-init c = scan-start
@@ -18,20 +18,11 @@ does_lose-requires c =
 pub overflow_cast-result : goal.overflow_cast-result
 overflow_cast-result c = let safe = c.requires.0 in omega (arith, safe.few, c.loop-r-test.true)
 
-pub overflow_add-result : goal.overflow_add-result
-overflow_add-result c = let safe = c.requires.0 in omega (arith, safe.few, c.loop-r-test.true)
-
 pub returns-then-does_lose : goal.returns-then-does_lose
 returns-then-does_lose c =
     λ g h ws l.
     let at-loop = c.loop-r in
     (omega arith) ∙ scan-hit at-loop.invariant c.loop-r-test.true _ c.does_lose.ensures c.if-does_lose.true g h ws l
-
-pub overflow_add-r : goal.overflow_add-r
-overflow_add-r c = let safe = c.requires.0 in omega (arith, safe.few, c.loop-r-test.true)
-
-pub loop-r-smaller : goal.loop-r-smaller
-loop-r-smaller c = omega (arith, c.loop-r-test.true)
 
 pub loop-r-preserved : goal.loop-r-preserved
 loop-r-preserved c =
