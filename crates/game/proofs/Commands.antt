@@ -17,8 +17,8 @@ unfolding in_order
 order_other states (Sizes p s l) h = absurd (miss (1 ∷ 2 ∷ 3 ∷ 4 ∷ 5 ∷ []) 0 tt h)
 order_other states (Abelard p) h = refl
 order_other states (Final q) h = refl
-order_other states (Rule p a q k b c) h = refl
-order_other states (Target q a set) h = refl
+order_other states (Rule r) h = refl
+order_other states (Target t) h = refl
 order_other states End h = refl
 
 pub kept-other : (command : Command) → OneOf (0 ∷ 1 ∷ 2 ∷ 4 ∷ 5 ∷ []) (tag_of the_type command) → true ≡ keeps_bottom command
@@ -26,8 +26,8 @@ unfolding keeps_bottom
 kept-other (Sizes p s l) h = refl
 kept-other (Abelard p) h = refl
 kept-other (Final q) h = refl
-kept-other (Rule p a q k b c) h = absurd (miss (0 ∷ 1 ∷ 2 ∷ 4 ∷ 5 ∷ []) 3 tt h)
-kept-other (Target q a set) h = refl
+kept-other (Rule r) h = absurd (miss (0 ∷ 1 ∷ 2 ∷ 4 ∷ 5 ∷ []) 3 tt h)
+kept-other (Target t) h = refl
 kept-other End h = refl
 
 pub new-other : (g : PushdownGame) (command : Command) → OneOf (0 ∷ 5 ∷ []) (tag_of the_type command) → true ≡ is_new g command
@@ -35,8 +35,8 @@ unfolding is_new
 new-other g (Sizes p s l) h = refl
 new-other g (Abelard p) h = absurd (miss (0 ∷ 5 ∷ []) 1 tt h)
 new-other g (Final q) h = absurd (miss (0 ∷ 5 ∷ []) 2 tt h)
-new-other g (Rule p a q k b c) h = absurd (miss (0 ∷ 5 ∷ []) 3 tt h)
-new-other g (Target q a set) h = absurd (miss (0 ∷ 5 ∷ []) 4 tt h)
+new-other g (Rule r) h = absurd (miss (0 ∷ 5 ∷ []) 3 tt h)
+new-other g (Target t) h = absurd (miss (0 ∷ 5 ∷ []) 4 tt h)
 new-other g End h = refl
 
 pub room-other : (rules targets : ℕ) (command : Command) → OneOf (0 ∷ 1 ∷ 2 ∷ 5 ∷ []) (tag_of the_type command) → true ≡ has_room rules targets command
@@ -44,6 +44,6 @@ unfolding has_room
 room-other rules targets (Sizes p s l) h = refl
 room-other rules targets (Abelard p) h = refl
 room-other rules targets (Final q) h = refl
-room-other rules targets (Rule p a q k b c) h = absurd (miss (0 ∷ 1 ∷ 2 ∷ 5 ∷ []) 3 tt h)
-room-other rules targets (Target q a set) h = absurd (miss (0 ∷ 1 ∷ 2 ∷ 5 ∷ []) 4 tt h)
+room-other rules targets (Rule r) h = absurd (miss (0 ∷ 1 ∷ 2 ∷ 5 ∷ []) 3 tt h)
+room-other rules targets (Target t) h = absurd (miss (0 ∷ 1 ∷ 2 ∷ 5 ∷ []) 4 tt h)
 room-other rules targets End h = refl

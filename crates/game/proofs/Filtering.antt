@@ -18,7 +18,10 @@ use Rattle.game.specs.ListLaws.{test, clash, both, any-in}
 use Rattle.game.specs.Game.{Rule, Transition, PushdownGame, empty_game}
 use Rattle.game.specs.Questions.{any, same_rule, same_target, add}
 use Rattle.game.specs.Marks.{slot_of, rule_word, rule_slot, target_slot, marked, Marks, Filtered}
-use Rattle.game.specs.Parts.{rule_of}
+
+use Rattle.game.specs.Stated.{stated, stated_target}
+use Rattle.game.specs.declared.rule.RuleBytes.{RuleBytes}
+use Rattle.game.specs.declared.rule.TargetWords.{TargetWords}
 use Rattle.game.specs.declared.command.Command.TheVariants.{Rule as RuleIs, Target}
 use Rattle.game.proofs.Tests.{shifted_one}
 
@@ -104,12 +107,12 @@ target-slots q a s t h =
 
 module _ (g : PushdownGame) (marks : List ℕ) (f : Filtered g marks) where
   -- a statement whose bit is not set is new
-  pub new-rule : (p a q k b c word slot : ℕ) (bit : Bool) → word ≡ rule_word q k b c → slot ≡ slot_of p a word → bit ≡ marked marks slot → bit ≡ false → true ≡ not (any (same_rule p a q k b c) g.rules)
-  new-rule p a q k b c word slot bit w s e off =
+  pub new-rule : (p a q k b c slot : ℕ) (bit : Bool) → slot ≡ slot_of p a (rule_word q k b c) → bit ≡ marked marks slot → bit ≡ false → true ≡ not (any (same_rule p a q k b c) g.rules)
+  new-rule p a q k b c slot bit s e off =
       ⊎_elim
       (λ (t : any (same_rule p a q k b c) g.rules ≡ true).
       let r = any-in (same_rule p a q k b c) g.rules t in
-      clash (f.rule r.0 r.1) (ap (marked marks) (rule-slots p a q k b c r.0 r.2 ∙ sym (s ∙ ap (slot_of p a) w)) ∙ sym e ∙ off))
+      clash (f.rule r.0 r.1) (ap (marked marks) (rule-slots p a q k b c r.0 r.2 ∙ sym s) ∙ sym e ∙ off))
       (λ (t : any (same_rule p a q k b c) g.rules ≡ false). sym (ap not t))
       (test (any (same_rule p a q k b c) g.rules))
 
@@ -123,26 +126,26 @@ module _ (g : PushdownGame) (marks : List ℕ) (f : Filtered g marks) where
       (test (any (same_target q a s) g.targets))
 
   -- the filter with one statement more
-  pub with-rule-marked : (p a q k b c word slot : ℕ) (after : List ℕ) → word ≡ rule_word q k b c → slot ≡ slot_of p a word → Marks marks slot after → Filtered (add g (RuleIs p a q k b c)) after
+  pub with-rule-marked : (r : RuleBytes) (slot : ℕ) (after : List ℕ) → slot ≡ rule_slot (stated 0 r) → Marks marks slot after → Filtered (add g (RuleIs r)) after
   unfolding add
-  with-rule-marked p a q k b c word slot after w s m =
-      let new = rule_of (length g.rules) p a q k b c in
+  with-rule-marked by slot after s m =
+      let new = stated (length g.rules) by in
       record {
         long = m.long ∙ f.long;
         rule = λ r h.
             ⊎_elim (λ (o : Memᴰ r g.rules). m.old (rule_slot r) (f.rule r o))
             (λ (o : Memᴰ r (new ∷ [])).
             ⊎_elim (λ (e : r ≡ new).
-            ap (λ (x : Rule). marked after (rule_slot x)) e ∙ ap (marked after) (sym (s ∙ ap (slot_of p a) w)) ∙ m.new)
+            ap (λ (x : Rule). marked after (rule_slot x)) e ∙ ap (marked after) (sym s) ∙ m.new)
             (λ (z : Memᴰ r []). absurd (Memᴰ.not-nil z)) (Memᴰ.cases_cons o))
             (Memᴰ.append_cases g.rules h);
         target = λ t h. m.old (target_slot t) (f.target t h);
       }
 
-  pub with-target-marked : (q a s slot : ℕ) (after : List ℕ) → slot ≡ slot_of q a s → Marks marks slot after → Filtered (add g (Target q a s)) after
+  pub with-target-marked : (t : TargetWords) (slot : ℕ) (after : List ℕ) → slot ≡ slot_of t.state t.letter t.set → Marks marks slot after → Filtered (add g (Target t)) after
   unfolding add
-  with-target-marked q a s slot after l m =
-      let new : Transition = record { state = q; letter = a; set = s } in
+  with-target-marked by slot after l m =
+      let new = stated_target by in
       record {
         long = m.long ∙ f.long;
         rule = λ r h. m.old (rule_slot r) (f.rule r h);

@@ -8,10 +8,13 @@ use lib.ListN.{length, set, length-append}
 use Rattle.game.specs.Game.{Rule, Transition, PushdownGame}
 use Rattle.game.specs.Limits.{max_rules, max_targets}
 use Rattle.game.specs.Stored.{rule_bytes, target_words, padded}
-use Rattle.game.specs.Parts.{Parts, rule_area, target_area, rule_of}
+use Rattle.game.specs.Parts.{Parts, rule_area, target_area}
 use Rattle.game.specs.StoredLaws.{length-rule_bytes, length-target_words}
 use Rattle.game.specs.Questions.{add}
 use Rattle.game.specs.declared.game.Sizes.{Sizes}
+use Rattle.game.specs.Stated.{stated, stated_target}
+use Rattle.game.specs.declared.rule.RuleBytes.{RuleBytes}
+use Rattle.game.specs.declared.rule.TargetWords.{TargetWords}
 use Rattle.game.specs.declared.command.Command.TheVariants.{Rule as RuleIs, Target}
 
 six-sets : (xs ys : List ℕ) (p a q k b c : ℕ) → set (set (set (set (set (set (xs ++ (0 ∷ 0 ∷ 0 ∷ 0 ∷ 0 ∷ 0 ∷ ys)) (length xs) p) (length xs + 1) a) (length xs + 2) q) (length xs + 3) k) (length xs + 4) b) (length xs + 5) c ≡ xs ++ (p ∷ a ∷ q ∷ k ∷ b ∷ c ∷ ys)
@@ -61,12 +64,12 @@ targets-grown ts t h =
     ∙ sym (append_assoc (target_words ts) (t.state ∷ t.letter ∷ t.set ∷ []) _))
 
 -- a rule stored after those of a list
-pub stores-rule : (rs : List Rule) (n : ℕ) (area : List ℕ) (p a q k b c : ℕ) → n < max_rules → n ≡ length rs → area ≡ rule_area rs → set (set (set (set (set (set area (n * 6) p) (n * 6 + 1) a) (n * 6 + 2) q) (n * 6 + 3) k) (n * 6 + 4) b) (n * 6 + 5) c ≡ rule_area (rs ++ (rule_of n p a q k b c ∷ []))
-stores-rule rs n area p a q k b c h e s = rw (s, e) (rules-grown rs (rule_of (length rs) p a q k b c) (rw e at h))
+pub stores-rule : (rs : List Rule) (n : ℕ) (area : List ℕ) (r : RuleBytes) → n < max_rules → n ≡ length rs → area ≡ rule_area rs → set (set (set (set (set (set area (n * 6) r.from) (n * 6 + 1) r.top) (n * 6 + 2) r.to) (n * 6 + 3) r.count) (n * 6 + 4) r.above) (n * 6 + 5) r.below ≡ rule_area (rs ++ (stated n r ∷ []))
+stores-rule rs n area r h e s = rw (s, e) (rules-grown rs (stated (length rs) r) (rw e at h))
 
 -- a target transition stored after those of a list
-pub stores-target : (ts : List Transition) (n : ℕ) (area : List ℕ) (q a s : ℕ) → n < max_targets → n ≡ length ts → area ≡ target_area ts → set (set (set area (n * 3) q) (n * 3 + 1) a) (n * 3 + 2) s ≡ target_area (ts ++ (record { state = q; letter = a; set = s } ∷ []))
-stores-target ts n area q a s h e f = rw (f, e) (targets-grown ts (record { state = q; letter = a; set = s }) (rw e at h))
+pub stores-target : (ts : List Transition) (n : ℕ) (area : List ℕ) (t : TargetWords) → n < max_targets → n ≡ length ts → area ≡ target_area ts → set (set (set area (n * 3) t.state) (n * 3 + 1) t.letter) (n * 3 + 2) t.set ≡ target_area (ts ++ (stated_target t ∷ []))
+stores-target ts n area t h e f = rw (f, e) (targets-grown ts (stated_target t) (rw e at h))
 
 module _ (g : PushdownGame) (sizes : Sizes) (rules targets : List ℕ) (parts : Parts g sizes rules targets) where
   pub counted-rules : sizes.rulecount ≡ length g.rules
@@ -76,7 +79,7 @@ module _ (g : PushdownGame) (sizes : Sizes) (rules targets : List ℕ) (parts : 
   counted-targets = ap (λ (x : Sizes). x.targetcount) parts.sized
 
   -- the parts with one rule more
-  pub with-rule : (p a q k b c n : ℕ) (area : List ℕ) → n ≡ sizes.rulecount + 1 → area ≡ rule_area (g.rules ++ (rule_of sizes.rulecount p a q k b c ∷ [])) → Parts (add g (RuleIs p a q k b c)) (record {
+  pub with-rule : (r : RuleBytes) (n : ℕ) (area : List ℕ) → n ≡ sizes.rulecount + 1 → area ≡ rule_area (g.rules ++ (stated sizes.rulecount r ∷ [])) → Parts (add g (RuleIs r)) (record {
     control = sizes.control;
     states = sizes.states;
     letters = sizes.letters;
@@ -86,16 +89,16 @@ module _ (g : PushdownGame) (sizes : Sizes) (rules targets : List ℕ) (parts : 
     targetcount = sizes.targetcount;
   }) area targets
   unfolding add
-  with-rule p a q k b c n area e s =
-      let more = sym (length-append g.rules (rule_of (length g.rules) p a q k b c ∷ [])) in
+  with-rule r n area e s =
+      let more = sym (length-append g.rules (stated (length g.rules) r ∷ [])) in
       record {
         sized = rw (e, parts.sized, ← more) refl;
-        ruled = s ∙ ap (λ (i : ℕ). rule_area (g.rules ++ (rule_of i p a q k b c ∷ []))) counted-rules;
+        ruled = s ∙ ap (λ (i : ℕ). rule_area (g.rules ++ (stated i r ∷ []))) counted-rules;
         targeted = parts.targeted;
       }
 
   -- the parts with one target transition more
-  pub with-target : (q a s n : ℕ) (area : List ℕ) → n ≡ sizes.targetcount + 1 → area ≡ target_area (g.targets ++ (record { state = q; letter = a; set = s } ∷ [])) → Parts (add g (Target q a s)) (record {
+  pub with-target : (t : TargetWords) (n : ℕ) (area : List ℕ) → n ≡ sizes.targetcount + 1 → area ≡ target_area (g.targets ++ (stated_target t ∷ [])) → Parts (add g (Target t)) (record {
     control = sizes.control;
     states = sizes.states;
     letters = sizes.letters;
@@ -105,6 +108,6 @@ module _ (g : PushdownGame) (sizes : Sizes) (rules targets : List ℕ) (parts : 
     targetcount = n;
   }) rules area
   unfolding add
-  with-target q a s n area e f =
-      let more = sym (length-append g.targets (record { state = q; letter = a; set = s } ∷ [])) in
+  with-target t n area e f =
+      let more = sym (length-append g.targets (stated_target t ∷ [])) in
       record { sized = rw (e, parts.sized, ← more) refl; ruled = parts.ruled; targeted = f }

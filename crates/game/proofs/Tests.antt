@@ -30,3 +30,12 @@ shifted_one s h = rw one-mul (mod-eq_of_lt (pow-lt h))
 -- 1 shifted left within 32 bits
 pub shifted-one-word : (s : ℕ) → s < 32 → 1 * 2 ^ s % 2 ^ 32 ≡ 2 ^ s
 shifted-one-word s h = rw one-mul (mod-eq_of_lt (pow-lt h))
+
+-- six tests, and three, taken together from either end
+pub six : (a b c d e f : Bool) → (a && (b && (c && (d && (e && f))))) ≡ (((((a && b) && c) && d) && e) && f)
+six false b c d e f = refl
+six true false c d e f = refl
+six true true false d e f = refl
+six true true true false e f = refl
+six true true true true false f = refl
+six true true true true true f = refl

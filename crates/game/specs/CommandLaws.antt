@@ -25,8 +25,8 @@ unfoldable pub bytes_in : Command → ℕ
 bytes_in (Sizes p s l) = 4
 bytes_in (Abelard p) = 2
 bytes_in (Final q) = 2
-bytes_in (Rule p a q k b c) = 7
-bytes_in (Target q a set) = 7
+bytes_in (Rule r) = 7
+bytes_in (Target t) = 7
 bytes_in End = 1
 
 some_bytes : (command : Command) → 0 < bytes_in command
@@ -34,8 +34,8 @@ unfolding bytes_in
 some_bytes (Sizes p s l) = omega arith
 some_bytes (Abelard p) = omega arith
 some_bytes (Final q) = omega arith
-some_bytes (Rule p a q k b c) = omega arith
-some_bytes (Target q a set) = omega arith
+some_bytes (Rule r) = omega arith
+some_bytes (Target t) = omega arith
 some_bytes End = omega arith
 
 chosen : (X : ℕ → Found → Type 0) (b : Bool) (n m : ℕ) (x y : Found) → X n x → X m y → X (cond b n m) (cond b x y)
@@ -51,8 +51,8 @@ by_code X file at known unknown code =
     chosen X (eqb code 1) _ _ _ _ (known (Sizes (o 1) (o 2) (o 3)))
     (chosen X (eqb code 2) _ _ _ _ (known (Abelard (o 1)))
     (chosen X (eqb code 3) _ _ _ _ (known (Final (o 1)))
-    (chosen X (eqb code 4) _ _ _ _ (known (Rule (o 1) (o 2) (o 3) (o 4) (o 5) (o 6)))
-    (chosen X (eqb code 5) _ _ _ _ (known (Target (o 1) (o 2) (set_of (o 3) (o 4) (o 5) (o 6))))
+    (chosen X (eqb code 4) _ _ _ _ (known (Rule (record { from = o 1; top = o 2; to = o 3; count = o 4; above = o 5; below = o 6 })))
+    (chosen X (eqb code 5) _ _ _ _ (known (Target (record { state = o 1; letter = o 2; set = set_of (o 3) (o 4) (o 5) (o 6) })))
     (chosen X (eqb code 255) _ _ _ _ (known End) unknown)))))
 
 -- What is found of a command of `size` bytes, 0 for an unknown one, where so many are left: the offset after it, or unknown, or missing.

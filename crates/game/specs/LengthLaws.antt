@@ -17,6 +17,8 @@ use Rattle.game.specs.CommandLaws.{command_size, bytes_in, found-to}
 use Rattle.game.specs.UnreadLaws.{tells}
 use Rattle.game.specs.Reads.{Passed, asked, opened, so_far, limits}
 use Rattle.game.specs.declared.command.Command.{Command}
+use Rattle.game.specs.declared.rule.RuleBytes.{RuleBytes}
+use Rattle.game.specs.declared.rule.TargetWords.{TargetWords}
 use Rattle.game.specs.declared.command.Command.TheVariants.{Sizes, Abelard, Final, Rule, Target, End}
 
 -- the most bytes that commands which pass can have, FF aside: 3,652
@@ -118,14 +120,14 @@ module _ (g : PushdownGame) (at : ℕ) (kept : SoFar g) (stands : Stands g at) w
       (λ s. final-grows (ltb s g.control) g.finals q s (has g.abelard s)) in
       record { first = λ e. absurd (later _ passed.order e); stated = omega (arith, more, stands.stated) }
 
-  after-rule : (p a q k b c : ℕ) → Passed g (Rule p a q k b c) → Stands (add g (Rule p a q k b c)) (at + 7)
+  after-rule : (r : RuleBytes) → Passed g (Rule r) → Stands (add g (Rule r)) (at + 7)
   unfolding in_order add
-  after-rule p a q k b c passed =
+  after-rule r passed =
       record { first = λ e. absurd (later _ passed.order e); stated = rw (length-append g.rules _) (omega (arith, stands.stated)) }
 
-  after-target : (q a set : ℕ) → Passed g (Target q a set) → Stands (add g (Target q a set)) (at + 7)
+  after-target : (t : TargetWords) → Passed g (Target t) → Stands (add g (Target t)) (at + 7)
   unfolding in_order add
-  after-target q a set passed =
+  after-target t passed =
       record { first = λ e. absurd (later _ passed.order e); stated = rw (length-append g.targets _) (omega (arith, stands.stated)) }
 
   after : (command : Command) → Passed g command → (command ≡ End → ⊥) → Stands (add g command) (at + bytes_in command)
@@ -133,8 +135,8 @@ module _ (g : PushdownGame) (at : ℕ) (kept : SoFar g) (stands : Stands g at) w
   after (Sizes p s l) passed h = after-sizes p s l passed
   after (Abelard p) passed h = after-abelard p passed
   after (Final q) passed h = after-final q passed
-  after (Rule p a q k b c) passed h = after-rule p a q k b c passed
-  after (Target q a set) passed h = after-target q a set passed
+  after (Rule r) passed h = after-rule r passed
+  after (Target t) passed h = after-target t passed
   after End passed h = absurd (h refl)
 
   within-limit : at ≤ max_command_bytes

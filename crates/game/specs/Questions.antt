@@ -6,6 +6,7 @@ use Rattle.game.specs.Limits.{max_file, max_control, max_states, max_letters, ma
 use Rattle.game.specs.Sets.{has, single, union, within}
 use Rattle.game.specs.Game.{Rule, Transition, PushdownGame, empty_game, word_of, of_head}
 use Rattle.game.specs.Outcome.{Outcome, done, refused}
+use Rattle.game.specs.Stated.{stated, stated_target}
 use Rattle.game.specs.Command.{Found, command_at}
 use Rattle.std.specs.Prelude.{Ok, Err}
 use Rattle.game.specs.declared.command.Unread.{Unread}
@@ -37,8 +38,8 @@ unfoldable pub in_order : ℕ → Command → Bool
 in_order states (Sizes p s l) = eqb states 0
 in_order states (Abelard p) = not (eqb states 0)
 in_order states (Final q) = not (eqb states 0)
-in_order states (RuleIs p a q k b c) = not (eqb states 0)
-in_order states (Target q a set) = not (eqb states 0)
+in_order states (RuleIs r) = not (eqb states 0)
+in_order states (Target t) = not (eqb states 0)
 in_order states End = not (eqb states 0)
 
 -- 1 ≤ P ≤ 24, P < S ≤ 32, 1 ≤ L ≤ 64
@@ -69,8 +70,8 @@ unfoldable pub in_range : ℕ → ℕ → ℕ → Command → Bool
 in_range control states letters (Sizes p s l) = sizes_in_range p s l
 in_range control states letters (Abelard p) = ltb p control
 in_range control states letters (Final q) = between control q states
-in_range control states letters (RuleIs p a q k b c) = rule_in_range control letters p a q k b c
-in_range control states letters (Target q a set) = target_in_range control states letters q a set
+in_range control states letters (RuleIs r) = rule_in_range control letters r.from r.top r.to r.count r.above r.below
+in_range control states letters (Target t) = target_in_range control states letters t.state t.letter t.set
 in_range control states letters End = true
 
 -- "On letter 0 it writes 0 last and only last; on another it writes no 0."
@@ -82,8 +83,8 @@ unfoldable pub keeps_bottom : Command → Bool
 keeps_bottom (Sizes p s l) = true
 keeps_bottom (Abelard p) = true
 keeps_bottom (Final q) = true
-keeps_bottom (RuleIs p a q k b c) = bottom_kept a (word_of k b c)
-keeps_bottom (Target q a set) = true
+keeps_bottom (RuleIs r) = bottom_kept r.top (word_of r.count r.above r.below)
+keeps_bottom (Target t) = true
 keeps_bottom End = true
 
 -- the rule that a 04 command states, and the target transition that a 05 command states
@@ -99,8 +100,8 @@ unfoldable pub is_new : PushdownGame → Command → Bool
 is_new g (Sizes p s l) = true
 is_new g (Abelard p) = not (has g.abelard p)
 is_new g (Final q) = not (has g.finals q)
-is_new g (RuleIs p a q k b c) = not (any (same_rule p a q k b c) g.rules)
-is_new g (Target q a set) = not (any (same_target q a set) g.targets)
+is_new g (RuleIs r) = not (any (same_rule r.from r.top r.to r.count r.above r.below) g.rules)
+is_new g (Target t) = not (any (same_target t.state t.letter t.set) g.targets)
 is_new g End = true
 
 -- 7. Were fewer than 256 of its kind before (04, 05)?
@@ -108,8 +109,8 @@ unfoldable pub has_room : ℕ → ℕ → Command → Bool
 has_room rules targets (Sizes p s l) = true
 has_room rules targets (Abelard p) = true
 has_room rules targets (Final q) = true
-has_room rules targets (RuleIs p a q k b c) = ltb rules max_rules
-has_room rules targets (Target q a set) = ltb targets max_targets
+has_room rules targets (RuleIs r) = ltb rules max_rules
+has_room rules targets (Target t) = ltb targets max_targets
 has_room rules targets End = true
 
 -- Questions 3 to 7 put to a command after those that gave the game so far: 0, or the number of the first no.
@@ -128,8 +129,8 @@ abbrev pub Room : ℕ → ℕ → Command → Type 0
 Room rules targets (Sizes p s l) = Unit {0}
 Room rules targets (Abelard p) = p < max_states
 Room rules targets (Final q) = q < max_states
-Room rules targets (RuleIs p a q k b c) = rules < max_rules
-Room rules targets (Target q a set) = targets < max_targets
+Room rules targets (RuleIs r) = rules < max_rules
+Room rules targets (Target t) = targets < max_targets
 Room rules targets End = Unit {0}
 
 -- The game with one command more; "rules count from 0 in file order".
@@ -157,19 +158,17 @@ add g (Final q) =
       rules = g.rules;
       targets = g.targets;
     }
-add g (RuleIs p a q k b c) =
+add g (RuleIs r) =
     record {
       control = g.control;
       states = g.states;
       letters = g.letters;
       abelard = g.abelard;
       finals = g.finals;
-      rules =
-          g.rules
-          ++ (record { number = length g.rules; from = p; top = a; to = q; count = k; above = b; below = c } ∷ []);
+      rules = g.rules ++ (stated (length g.rules) r ∷ []);
       targets = g.targets;
     }
-add g (Target q a s) =
+add g (Target t) =
     record {
       control = g.control;
       states = g.states;
@@ -177,7 +176,7 @@ add g (Target q a s) =
       abelard = g.abelard;
       finals = g.finals;
       rules = g.rules;
-      targets = g.targets ++ (record { state = q; letter = a; set = s } ∷ []);
+      targets = g.targets ++ (stated_target t ∷ []);
     }
 add g End = g
 
@@ -205,8 +204,8 @@ unfoldable pub taken : ℕ → ℕ → PushdownGame → Command → Outcome Push
 taken size at g (Sizes p s l) rest = rest
 taken size at g (Abelard p) rest = rest
 taken size at g (Final q) rest = rest
-taken size at g (RuleIs p a q k b c) rest = rest
-taken size at g (Target q a set) rest = rest
+taken size at g (RuleIs r) rest = rest
+taken size at g (Target t) rest = rest
 taken size at g End rest = ending size at g
 
 -- 2. Is the command known? 19. Has it all its operands? Then 3 to 7. `rest` is the walk after it.

@@ -15,6 +15,7 @@ use Rattle.game.specs.Game.{Rule, Transition, PushdownGame, empty_game, word_of,
 use Rattle.game.specs.Outcome.{Outcome, done, refused}
 use Rattle.game.specs.Questions.{any, in_order, sizes_in_range, between, rule_in_range, target_in_range, in_range, bottom_kept, keeps_bottom, same_target, is_new, has_room, ask, Room, add, every_letter, every_head, reading}
 use Rattle.game.specs.ListLaws.{both, any-in, in-filter, none-at, all_below-at, below_suc}
+use Rattle.game.specs.Stated.{stated, stated_target}
 use Rattle.game.specs.StoredLaws.{no_transition}
 use Rattle.game.specs.WalkLaws.{Answers, of-reading}
 use Rattle.game.specs.GoodGame.{GoodRule, GoodTarget, Numbered, Distinct, Ranged, SoFar, Good}
@@ -53,8 +54,8 @@ unfolding in_order
 first (Sizes p s l) h = (p, s, l, refl)
 first (Abelard p) h = absurd (impossible h)
 first (Final q) h = absurd (impossible h)
-first (RuleIs p a q k b c) h = absurd (impossible h)
-first (Target q a set) h = absurd (impossible h)
+first (RuleIs r) h = absurd (impossible h)
+first (Target t) h = absurd (impossible h)
 first End h = absurd (impossible h)
 
 -- the game after an accepted 01
@@ -186,9 +187,8 @@ grow g k (Final q) h =
       distinct = k.distinct;
       targets = k.targets;
     }
-grow g k (RuleIs p a q n b c) h =
-    let r : Rule = record { number = length g.rules; from = p; top = a; to = q; count = n; above = b; below = c } in
-    let new : GoodRule g.control g.letters r = ruled g.control g.letters p a q n b c (length g.rules) h.range h.bottom in
+grow g k (RuleIs r) h =
+    let new : GoodRule g.control g.letters (stated (length g.rules) r) = ruled g.control g.letters r.from r.top r.to r.count r.above r.below (length g.rules) h.range h.bottom in
     record {
       some = k.some;
       control = k.control;
@@ -198,16 +198,15 @@ grow g k (RuleIs p a q n b c) h =
       letters = k.letters;
       abelard = k.abelard;
       finals = k.finals;
-      rule = λ x m. ⊎_elim (k.rule x) (λ (e : x ≡ r). rw e new) (one_more g.rules m);
-      numbers = numbered_more 0 g.rules r k.numbers (omega arith);
-      rules = omega (arith, length-append g.rules (r ∷ []), ltb-true (length g.rules) max_rules h.room);
+      rule = λ x m. ⊎_elim (k.rule x) (λ (e : x ≡ stated (length g.rules) r). rw e new) (one_more g.rules m);
+      numbers = numbered_more 0 g.rules (stated (length g.rules) r) k.numbers (omega arith);
+      rules = omega (arith, length-append g.rules (stated (length g.rules) r ∷ []), ltb-true (length g.rules) max_rules h.room);
       target = k.target;
       distinct = k.distinct;
       targets = k.targets;
     }
-grow g k (Target q a s) h =
-    let t : Transition = record { state = q; letter = a; set = s } in
-    let new : GoodTarget g.control g.states g.letters t = targeted g.control g.states g.letters q a s h.range in
+grow g k (Target t) h =
+    let new : GoodTarget g.control g.states g.letters (stated_target t) = targeted g.control g.states g.letters t.state t.letter t.set h.range in
     record {
       some = k.some;
       control = k.control;
@@ -220,9 +219,9 @@ grow g k (Target q a s) h =
       rule = k.rule;
       numbers = k.numbers;
       rules = k.rules;
-      target = λ x m. ⊎_elim (k.target x) (λ (e : x ≡ t). rw e new) (one_more g.targets m);
-      distinct = distinct_more g.targets q a s k.distinct (not-true _ h.new);
-      targets = omega (arith, length-append g.targets (t ∷ []), ltb-true (length g.targets) max_targets h.room);
+      target = λ x m. ⊎_elim (k.target x) (λ (e : x ≡ stated_target t). rw e new) (one_more g.targets m);
+      distinct = distinct_more g.targets t.state t.letter t.set k.distinct (not-true _ h.new);
+      targets = omega (arith, length-append g.targets (stated_target t ∷ []), ltb-true (length g.targets) max_targets h.room);
     }
 grow g k End h = k
 
@@ -252,8 +251,8 @@ unfolding in_range between has_room
 roomy g k (Sizes p s l) h = tt
 roomy g k (Abelard p) h = omega (arith, limits g k, ltb-true p g.control h.range)
 roomy g k (Final q) h = omega (arith, limits g k, ltb-true q g.states (both (leb g.control q) (ltb q g.states) h.range).1)
-roomy g k (RuleIs p a q n b c) h = ltb-true _ _ h.room
-roomy g k (Target q a s) h = ltb-true _ _ h.room
+roomy g k (RuleIs r) h = ltb-true _ _ h.room
+roomy g k (Target t) h = ltb-true _ _ h.room
 roomy g k End h = tt
 
 -- what the code needs of a command that passed

@@ -80,8 +80,8 @@ module _ (file : List ℕ) (I : ℕ → PushdownGame → Type 0) (X : Outcome Pu
   at-taken at next g i (Sizes p s l) found passed rest on = on (λ e. let z : ◌≡◌ {A = ℕ} 0 1 = cc in omega arith)
   at-taken at next g i (Abelard p) found passed rest on = on (λ e. let z : ◌≡◌ {A = ℕ} 0 1 = cc in omega arith)
   at-taken at next g i (Final q) found passed rest on = on (λ e. let z : ◌≡◌ {A = ℕ} 0 1 = cc in omega arith)
-  at-taken at next g i (Rule p a q k b c) found passed rest on = on (λ e. let z : ◌≡◌ {A = ℕ} 0 1 = cc in omega arith)
-  at-taken at next g i (Target q a set) found passed rest on = on (λ e. let z : ◌≡◌ {A = ℕ} 0 1 = cc in omega arith)
+  at-taken at next g i (Rule r) found passed rest on = on (λ e. let z : ◌≡◌ {A = ℕ} 0 1 = cc in omega arith)
+  at-taken at next g i (Target t) found passed rest on = on (λ e. let z : ◌≡◌ {A = ℕ} 0 1 = cc in omega arith)
   at-taken at next g i End found passed rest on = at-end at g i (next, found) passed
 
   at-met : (at : ℕ) (g : PushdownGame) → I at g → at < length file → (found : Found) → command_at file at ≡ found
@@ -132,8 +132,8 @@ module _ (file : List ℕ) where
   not_end at g (Sizes p s l) rest other = refl
   not_end at g (Abelard p) rest other = refl
   not_end at g (Final q) rest other = refl
-  not_end at g (Rule p a q k b c) rest other = refl
-  not_end at g (Target q a set) rest other = refl
+  not_end at g (Rule r) rest other = refl
+  not_end at g (Target t) rest other = refl
   not_end at g End rest other = absurd (other refl)
 
   -- one turn of the walk, within the file

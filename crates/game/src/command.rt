@@ -4,6 +4,7 @@ ghost use Rattle.game.specs.Command.{whole, set_of, decoded, command_at};
 ghost use Rattle.game.specs.Outcome.{unread_as};
 
 use crate::refusal::Question;
+use crate::rule::{RuleBytes, TargetWords};
 
 #[derive(Clone, Copy, Debug, PartialEq, Eq)]
 pub enum Command {
@@ -18,19 +19,8 @@ pub enum Command {
     Final {
         state: u8,
     },
-    Rule {
-        from: u8,
-        top: u8,
-        to: u8,
-        count: u8,
-        above: u8,
-        below: u8,
-    },
-    Target {
-        state: u8,
-        letter: u8,
-        set: u32,
-    },
+    Rule(RuleBytes),
+    Target(TargetWords),
     End,
 }
 
@@ -120,7 +110,7 @@ fn rule_at(file: &[u8], at: usize) -> Result<(Command, usize), Unread>
     if file.len() - at < 7 {
         return Err(Unread::Cut);
     }
-    let command = Command::Rule {
+    let rule = RuleBytes {
         from: file[at + 1],
         top: file[at + 2],
         to: file[at + 3],
@@ -128,7 +118,7 @@ fn rule_at(file: &[u8], at: usize) -> Result<(Command, usize), Unread>
         above: file[at + 5],
         below: file[at + 6],
     };
-    Ok((command, at + 7))
+    Ok((Command::Rule(rule), at + 7))
 }
 
 fn target_at(file: &[u8], at: usize) -> Result<(Command, usize), Unread>
@@ -139,12 +129,12 @@ fn target_at(file: &[u8], at: usize) -> Result<(Command, usize), Unread>
         return Err(Unread::Cut);
     }
     let set = set_of(file[at + 3], file[at + 4], file[at + 5], file[at + 6]);
-    let command = Command::Target {
+    let target = TargetWords {
         state: file[at + 1],
         letter: file[at + 2],
         set,
     };
-    Ok((command, at + 7))
+    Ok((Command::Target(target), at + 7))
 }
 
 // A set of four bytes, lowest first.

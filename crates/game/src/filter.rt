@@ -5,7 +5,7 @@
 // The same bits serve question 9, where a head has a number and its bit says that it has a rule.
 ghost use Rattle.std.specs.Prelude.{◌≡◌, ◌<◌, ◌/◌, length};
 ghost use Rattle.game.specs.Limits.{slots};
-ghost use Rattle.game.specs.Marks.{head_slot, slot_of, rule_word, marked, Marks};
+ghost use Rattle.game.specs.Marks.{head_slot, slot_of, marked, Marks};
 
 use crate::game::Game;
 
@@ -24,13 +24,6 @@ pub fn head_slot(p: u8, a: u8) -> usize
     ensures { result ≡ head_slot p a }
 {
     (p as usize) * (Game::MAX_LETTERS as usize) + (a as usize)
-}
-
-// What a rule has beside its head, as a word.
-pub fn rule_word(to: u8, count: u8, above: u8, below: u8) -> u32
-    ensures { result ≡ rule_word to count above below }
-{
-    (((to as u32) * 4 + (count as u32)) * 64 + (above as u32)) * 64 + (below as u32)
 }
 
 // The bit of a slot is set.

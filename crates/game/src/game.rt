@@ -1,19 +1,30 @@
 // The game that a file describes, its limits and its makers.
-ghost use Rattle.std.specs.Prelude.{◌≡◌, List, [], ◌∷◌, ◌++◌, ℕ, ◌<◌, ◌+◌, ◌*◌, length};
+ghost use Rattle.std.specs.Prelude.{◌≡◌, List, ℕ, ◌<◌, ◌*◌, length};
 ghost use Rattle.game.specs.Limits.{max_rules, max_targets, rule_stride, target_stride, slot_words};
-ghost use Rattle.game.specs.Game.{PushdownGame, Rule, Transition, empty_game};
+ghost use Rattle.game.specs.Game.{PushdownGame, empty_game};
 ghost use Rattle.game.specs.Questions.{Room, add};
 ghost use Rattle.game.specs.Stored.{stored, sizes_of, held_sizes, limits_are};
-ghost use Rattle.game.specs.Parts.{Parts, rule_area, target_area, rule_of};
+ghost use Rattle.game.specs.Parts.{Parts};
 ghost use Rattle.game.specs.Marks.{Filtered};
 ghost use Rattle.game.specs.declared.command.Command.TheVariants.{Rule as RuleIs, Target};
 
 use crate::command::Command;
-use crate::filter::{mark, rule_word, slot_of};
+use crate::filter::mark;
+use crate::rule::{RuleBytes, TargetWords};
 
 // A game by value. Rules and target transitions are flat, one after the other in file order; what is not used is 0.
 #[derive(Clone, Copy)]
 pub struct Game {
+    pub sizes: Sizes,
+    // A rule is RULE_STRIDE bytes: from, top, to, number of letters written, the upper and the lower one.
+    pub rules: [u8; Game::MAX_RULES * Game::RULE_STRIDE],
+    // A target transition is TARGET_STRIDE words: state, letter, set.
+    pub targets: [u32; Game::MAX_TARGETS * Game::TARGET_STRIDE],
+}
+
+// A game but for its rules and target transitions: what those above hand on beside the flat rules.
+#[derive(Clone, Copy, Debug, PartialEq, Eq)]
+pub struct Sizes {
     // P, S and L of document 01.
     pub control: u8,
     pub states: u8,
@@ -21,28 +32,13 @@ pub struct Game {
     // Abelard's control states and the final states, as sets: bit s for state s.
     pub abelard: u32,
     pub finals: u32,
-    // A rule is RULE_STRIDE bytes: from, top, to, number of letters written, the upper and the lower one.
-    pub rulecount: usize,
-    pub rules: [u8; Game::MAX_RULES * Game::RULE_STRIDE],
-    // A target transition is TARGET_STRIDE words: state, letter, set.
-    pub targetcount: usize,
-    pub targets: [u32; Game::MAX_TARGETS * Game::TARGET_STRIDE],
-}
-
-// A game but for its rules and target transitions: what those above hand on beside the flat rules.
-#[derive(Clone, Copy)]
-pub struct Sizes {
-    pub control: u8,
-    pub states: u8,
-    pub letters: u8,
-    pub abelard: u32,
-    pub finals: u32,
+    // How many rules and target transitions there are.
     pub rulecount: usize,
     pub targetcount: usize,
 }
 
 // The limits of document 01.
-#[derive(Clone, Copy)]
+#[derive(Clone, Copy, Debug, PartialEq, Eq)]
 pub struct Limits {
     pub file: usize,
     pub control: u8,
@@ -88,14 +84,8 @@ impl Game {
         ensures { result ≡ stored empty_game }
     {
         Game {
-            control: 0,
-            states: 0,
-            letters: 0,
-            abelard: 0,
-            finals: 0,
-            rulecount: 0,
+            sizes: Sizes::none(),
             rules: [0; Game::MAX_RULES * Game::RULE_STRIDE],
-            targetcount: 0,
             targets: [0; Game::MAX_TARGETS * Game::TARGET_STRIDE],
         }
     }
@@ -104,15 +94,7 @@ impl Game {
     pub fn sizes(self) -> Sizes
         ensures { result ≡ held_sizes self }
     {
-        Sizes {
-            control: self.control,
-            states: self.states,
-            letters: self.letters,
-            abelard: self.abelard,
-            finals: self.finals,
-            rulecount: self.rulecount,
-            targetcount: self.targetcount,
-        }
+        self.sizes
     }
 
     // The limits, for whoever reads the definitions: these are theirs.
@@ -183,103 +165,35 @@ impl Sizes {
                 next.finals = self.finals | (1u32 << state);
                 next
             }
-            Command::Rule {
-                from,
-                top,
-                to,
-                count,
-                above,
-                below,
-            } => self.with_rule(rules, marks, from, top, to, count, above, below),
-            Command::Target { state, letter, set } => {
-                self.with_target(targets, marks, state, letter, set)
-            }
+            Command::Rule(rule) => self.with_rule(rules, marks, rule),
+            Command::Target(target) => self.with_target(targets, marks, target),
             Command::End => next,
         }
     }
 
-    fn with_rule(
-        self,
-        rules: &mut [u8],
-        marks: &mut [u64],
-        from: u8,
-        top: u8,
-        to: u8,
-        count: u8,
-        above: u8,
-        below: u8,
-    ) -> Sizes
+    fn with_rule(self, rules: &mut [u8], marks: &mut [u64], rule: RuleBytes) -> Sizes
         requires { (self.rulecount < max_rules) × (length rules.old ≡ max_rules * rule_stride) × (length marks.old ≡ slot_words) }
         ensures parts { (g : PushdownGame) (targets : List ℕ) → Parts g self rules.old targets
-            → Parts (add g (RuleIs from top to count above below)) result rules.new targets }
-        ensures filtered { (g : PushdownGame) → Filtered g marks.old
-            → Filtered (add g (RuleIs from top to count above below)) marks.new }
+            → Parts (add g (RuleIs rule)) result rules.new targets }
+        ensures filtered { (g : PushdownGame) → Filtered g marks.old → Filtered (add g (RuleIs rule)) marks.new }
     {
-        mark(
-            marks,
-            slot_of(from, top, rule_word(to, count, above, below)),
-        );
-        let stored = store_rule(rules, self.rulecount, from, top, to, count, above, below);
+        mark(marks, rule.slot());
+        rule.store(rules, self.rulecount);
         let mut next = self;
-        next.rulecount = stored;
+        next.rulecount += 1;
         next
     }
 
-    fn with_target(
-        self,
-        targets: &mut [u32],
-        marks: &mut [u64],
-        state: u8,
-        letter: u8,
-        set: u32,
-    ) -> Sizes
+    fn with_target(self, targets: &mut [u32], marks: &mut [u64], target: TargetWords) -> Sizes
         requires { (self.targetcount < max_targets) × (length targets.old ≡ max_targets * target_stride) × (length marks.old ≡ slot_words) }
         ensures parts { (g : PushdownGame) (rules : List ℕ) → Parts g self rules targets.old
-            → Parts (add g (Target state letter set)) result rules targets.new }
-        ensures filtered { (g : PushdownGame) → Filtered g marks.old → Filtered (add g (Target state letter set)) marks.new }
+            → Parts (add g (Target target)) result rules targets.new }
+        ensures filtered { (g : PushdownGame) → Filtered g marks.old → Filtered (add g (Target target)) marks.new }
     {
-        mark(marks, slot_of(state, letter, set));
-        let stored = store_target(targets, self.targetcount, state, letter, set);
+        mark(marks, target.slot());
+        target.store(targets, self.targetcount);
         let mut next = self;
-        next.targetcount = stored;
+        next.targetcount += 1;
         next
     }
-}
-
-// A rule stored after the first `stored`: how many there are then.
-fn store_rule(
-    rules: &mut [u8],
-    stored: usize,
-    from: u8,
-    top: u8,
-    to: u8,
-    count: u8,
-    above: u8,
-    below: u8,
-) -> usize
-    requires { (stored < max_rules) × (length rules.old ≡ max_rules * rule_stride) }
-    ensures { (result ≡ stored + 1) × ((rs : List Rule) → stored ≡ length rs → rules.old ≡ rule_area rs
-        → rules.new ≡ rule_area (rs ++ (rule_of stored from top to count above below ∷ []))) }
-{
-    let at = stored * Game::RULE_STRIDE;
-    rules[at] = from;
-    rules[at + 1] = top;
-    rules[at + 2] = to;
-    rules[at + 3] = count;
-    rules[at + 4] = above;
-    rules[at + 5] = below;
-    stored + 1
-}
-
-// A target transition stored after the first `stored`: how many there are then.
-fn store_target(targets: &mut [u32], stored: usize, state: u8, letter: u8, set: u32) -> usize
-    requires { (stored < max_targets) × (length targets.old ≡ max_targets * target_stride) }
-    ensures { (result ≡ stored + 1) × ((ts : List Transition) → stored ≡ length ts → targets.old ≡ target_area ts
-        → targets.new ≡ target_area (ts ++ (record { state = state; letter = letter; set = set } ∷ []))) }
-{
-    let at = stored * Game::TARGET_STRIDE;
-    targets[at] = state as u32;
-    targets[at + 1] = letter as u32;
-    targets[at + 2] = set;
-    stored + 1
 }

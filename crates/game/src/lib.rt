@@ -12,6 +12,7 @@ mod question;
 mod reader;
 mod reading;
 mod refusal;
+mod rule;
 
 pub use command::{Command, Unread, command_at};
 pub use game::{Game, Limits, Sizes};
@@ -19,3 +20,4 @@ pub use position::position_form;
 pub use question::{has_state, is_rule_of, is_within};
 pub use reader::{CommandReader, read_command};
 pub use refusal::{Question, Refusal};
+pub use rule::{RuleBytes, TargetWords};

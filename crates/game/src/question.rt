@@ -10,7 +10,6 @@ ghost use Rattle.game.specs.Marks.{Filtered, HeadMarks, Headed, letters_marked};
 ghost use Rattle.game.specs.Questions.{
   in_order,
   sizes_in_range,
-  between,
   unused_zero,
   rule_in_range,
   target_in_range,
@@ -30,9 +29,10 @@ ghost use Rattle.game.specs.Questions.{
 };
 
 use crate::command::Command;
-use crate::filter::{head_slot, is_marked, mark, rule_word, slot_of};
+use crate::filter::{head_slot, is_marked, mark};
 use crate::game::{Game, Sizes};
 use crate::refusal::Question;
+use crate::rule::{RuleBytes, TargetWords};
 
 // Questions 3 to 7: the first that is answered no.
 pub fn ask_command(
@@ -69,16 +69,13 @@ fn is_in_order(states: u8, command: Command) -> bool
     ensures { result ≡ in_order states command }
 {
     match command {
-        Command::Sizes {
-            control: _,
-            states: _,
-            letters: _,
-        } => states == 0,
+        Command::Sizes { .. } => states == 0,
         _ => states != 0,
     }
 }
 
 // 4. Are operands in range?
+#[tactic(auto, unfolding(crate::specs::Questions::in_range, crate::specs::Questions::between))]
 fn is_in_range(control: u8, states: u8, letters: u8, command: Command) -> bool
     requires { (control ≤ max_states) × (states ≤ max_states) }
     ensures { result ≡ in_range control states letters command }
@@ -90,135 +87,64 @@ fn is_in_range(control: u8, states: u8, letters: u8, command: Command) -> bool
             letters: l,
         } => are_sizes_in_range(p, s, l),
         Command::Abelard { state } => state < control,
-        Command::Final { state } => is_between(control, state, states),
-        Command::Rule {
-            from,
-            top,
-            to,
-            count,
-            above,
-            below,
-        } => { is_rule_in_range(control, letters, from, top, to, count, above, below) }
-        Command::Target { state, letter, set } => {
-            is_target_in_range(control, states, letters, state, letter, set)
-        }
+        Command::Final { state } => control <= state && state < states,
+        Command::Rule(rule) => is_rule_in_range(control, letters, rule),
+        Command::Target(target) => is_target_in_range(control, states, letters, target),
         Command::End => true,
     }
 }
 
-fn is_between(low: u8, x: u8, high: u8) -> bool
-    ensures { result ≡ between low x high }
-{
-    if x < low {
-        return false;
-    }
-    if high <= x {
-        return false;
-    }
-    true
-}
-
+#[tactic(auto, unfolding(crate::specs::Questions::sizes_in_range))]
 fn are_sizes_in_range(control: u8, states: u8, letters: u8) -> bool
     ensures { result ≡ sizes_in_range control states letters }
 {
-    if control < 1 {
-        return false;
-    }
-    if Game::MAX_CONTROL < control {
-        return false;
-    }
-    if states <= control {
-        return false;
-    }
-    if Game::MAX_STATES < states {
-        return false;
-    }
-    if letters < 1 {
-        return false;
-    }
-    if Game::MAX_LETTERS < letters {
-        return false;
-    }
-    true
+    1 <= control
+        && control <= Game::MAX_CONTROL
+        && control < states
+        && states <= Game::MAX_STATES
+        && 1 <= letters
+        && letters <= Game::MAX_LETTERS
 }
 
-fn is_rule_in_range(
-    control: u8,
-    letters: u8,
-    from: u8,
-    top: u8,
-    to: u8,
-    count: u8,
-    above: u8,
-    below: u8,
-) -> bool
-    ensures { result ≡ rule_in_range control letters from top to count above below }
+#[tactic(auto, unfolding(crate::specs::Questions::rule_in_range))]
+fn is_rule_in_range(control: u8, letters: u8, rule: RuleBytes) -> bool
+    ensures { result ≡ rule_in_range control letters rule.from rule.top rule.to rule.count rule.above rule.below }
 {
-    if control <= from {
-        return false;
-    }
-    if letters <= top {
-        return false;
-    }
-    if control <= to {
-        return false;
-    }
-    if 2 < count {
-        return false;
-    }
-    if letters <= above {
-        return false;
-    }
-    if letters <= below {
-        return false;
-    }
-    are_unused_zero(count, above, below)
+    rule.from < control
+        && rule.top < letters
+        && rule.to < control
+        && rule.count <= 2
+        && rule.above < letters
+        && rule.below < letters
+        && are_unused_zero(rule)
 }
 
-fn are_unused_zero(count: u8, above: u8, below: u8) -> bool
-    ensures { result ≡ unused_zero count above below }
+#[tactic(auto, unfolding(crate::specs::Questions::unused_zero))]
+fn are_unused_zero(rule: RuleBytes) -> bool
+    ensures { result ≡ unused_zero rule.count rule.above rule.below }
 {
-    if 2 <= count {
-        return true;
-    }
-    if below != 0 {
-        return false;
-    }
-    if 1 <= count {
-        return true;
-    }
-    above == 0
+    2 <= rule.count || (rule.below == 0 && (1 <= rule.count || rule.above == 0))
 }
 
-fn is_target_in_range(control: u8, states: u8, letters: u8, state: u8, letter: u8, set: u32) -> bool
+#[tactic(auto, unfolding(crate::specs::Questions::target_in_range))]
+fn is_target_in_range(control: u8, states: u8, letters: u8, target: TargetWords) -> bool
     requires { (control ≤ max_states) × (states ≤ max_states) }
-    ensures { result ≡ target_in_range control states letters state letter set }
+    ensures { result ≡ target_in_range control states letters target.state target.letter target.set }
 {
-    if states <= state {
-        return false;
-    }
-    if letters <= letter {
-        return false;
-    }
-    if set == 0 {
-        return false;
-    }
-    is_within(control, states, set)
+    target.state < states
+        && target.letter < letters
+        && target.set != 0
+        && is_within(control, states, target.set)
 }
 
 // Only states from `low` to `high` - 1 are in the set.
+#[tactic(auto, unfolding(crate::specs::Sets::within))]
 pub fn is_within(low: u8, high: u8, set: u32) -> bool
     requires { (low ≤ max_states) × (high ≤ max_states) }
     ensures { result ≡ within low high set }
 {
     let wide = set as u64;
-    if wide % (1u64 << low) != 0 {
-        return false;
-    }
-    if wide >> high != 0 {
-        return false;
-    }
-    true
+    wide % (1u64 << low) == 0 && wide >> high == 0
 }
 
 // 5. Does the rule keep the bottom?
@@ -226,55 +152,42 @@ fn is_bottom_kept(command: Command) -> bool
     ensures { result ≡ keeps_bottom command }
 {
     match command {
-        Command::Rule {
-            from: _,
-            top,
-            to: _,
-            count,
-            above,
-            below,
-        } => is_word_kept(top, count, above, below),
+        Command::Rule(rule) => is_word_kept(rule),
         _ => true,
     }
 }
 
-fn is_word_kept(top: u8, count: u8, above: u8, below: u8) -> bool
-    ensures { result ≡ bottom_kept top (word_of count above below) }
+#[tactic(auto, unfolding(crate::specs::Questions::bottom_kept))]
+fn is_word_kept(rule: RuleBytes) -> bool
+    ensures { result ≡ bottom_kept rule.top (word_of rule.count rule.above rule.below) }
 {
-    if top == 0 {
-        return is_bottom_last(count, above, below);
+    if rule.top == 0 {
+        is_bottom_last(rule)
+    } else {
+        is_bottom_absent(rule)
     }
-    is_bottom_absent(count, above, below)
 }
 
-fn is_bottom_last(count: u8, above: u8, below: u8) -> bool
-    ensures { result ≡ bottom_last (word_of count above below) }
+#[tactic(auto, unfolding(crate::specs::Questions::bottom_last, crate::specs::Game::word_of))]
+fn is_bottom_last(rule: RuleBytes) -> bool
+    ensures { result ≡ bottom_last (word_of rule.count rule.above rule.below) }
 {
-    if count == 0 {
-        return false;
+    match rule.count {
+        0 => false,
+        1 => rule.above == 0,
+        _ => rule.above != 0 && rule.below == 0,
     }
-    if count == 1 {
-        return above == 0;
-    }
-    if above == 0 {
-        return false;
-    }
-    below == 0
 }
 
-fn is_bottom_absent(count: u8, above: u8, below: u8) -> bool
-    ensures { result ≡ no_bottom (word_of count above below) }
+#[tactic(auto, unfolding(crate::specs::Questions::no_bottom, crate::specs::Game::word_of))]
+fn is_bottom_absent(rule: RuleBytes) -> bool
+    ensures { result ≡ no_bottom (word_of rule.count rule.above rule.below) }
 {
-    if count == 0 {
-        return true;
+    match rule.count {
+        0 => true,
+        1 => rule.above != 0,
+        _ => rule.above != 0 && rule.below != 0,
     }
-    if count == 1 {
-        return above != 0;
-    }
-    if above == 0 {
-        return false;
-    }
-    below != 0
 }
 
 // 6. Is the statement new?
@@ -286,130 +199,67 @@ fn is_new(sizes: Sizes, rules: &[u8], targets: &[u32], marks: &[u64], command: C
     match command {
         Command::Abelard { state } => !has_state(sizes.abelard, state),
         Command::Final { state } => !has_state(sizes.finals, state),
-        Command::Rule {
-            from,
-            top,
-            to,
-            count,
-            above,
-            below,
-        } => {
-            if !is_marked(
-                marks,
-                slot_of(from, top, rule_word(to, count, above, below)),
-            ) {
+        Command::Rule(rule) => {
+            if !is_marked(marks, rule.slot()) {
                 return true;
             }
-            !is_rule_stored(rules, sizes.rulecount, from, top, to, count, above, below)
+            !is_rule_stored(rules, sizes.rulecount, rule)
         }
-        Command::Target { state, letter, set } => {
-            if !is_marked(marks, slot_of(state, letter, set)) {
+        Command::Target(target) => {
+            if !is_marked(marks, target.slot()) {
                 return true;
             }
-            !is_target_stored(targets, sizes.targetcount, state, letter, set)
+            !is_target_stored(targets, sizes.targetcount, target)
         }
         _ => true,
     }
 }
 
 // State s is in the set.
+#[tactic(auto, unfolding(crate::specs::Sets::has))]
 pub fn has_state(set: u32, s: u8) -> bool
     ensures { result ≡ has set s }
 {
-    if Game::MAX_STATES <= s {
-        return false;
-    }
-    (set >> s) % 2 == 1
+    s < Game::MAX_STATES && (set >> s) % 2 == 1
 }
 
 // One of the first `stored` rules is this one.
-fn is_rule_stored(
-    rules: &[u8],
-    stored: usize,
-    from: u8,
-    top: u8,
-    to: u8,
-    count: u8,
-    above: u8,
-    below: u8,
-) -> bool
+fn is_rule_stored(rules: &[u8], stored: usize, rule: RuleBytes) -> bool
     requires { (stored * rule_stride ≤ length rules.now) × (stored ≤ max_rules) }
     ensures { (rs : List Rule) (t : List ℕ) → rules.now ≡ rule_bytes rs ++ t → stored ≡ length rs
-        → result ≡ any (same_rule from top to count above below) rs }
+        → result ≡ any (same_rule rule.from rule.top rule.to rule.count rule.above rule.below) rs }
 {
-    for i in 0..stored {
-        if is_rule_at(
-            rules,
-            i * Game::RULE_STRIDE,
-            from,
-            top,
-            to,
-            count,
-            above,
-            below,
-        ) {
+    for r in 0..stored {
+        if RuleBytes::at(rules, r) == rule {
             return true;
         }
     }
     false
-}
-
-fn is_rule_at(
-    rules: &[u8],
-    at: usize,
-    from: u8,
-    top: u8,
-    to: u8,
-    count: u8,
-    above: u8,
-    below: u8,
-) -> bool
-    requires { at + rule_stride ≤ length rules.now }
-    ensures { result ≡ same_rule from top to count above below (rule_at rules.now at 0) }
-{
-    if rules[at] != from {
-        return false;
-    }
-    if rules[at + 1] != top {
-        return false;
-    }
-    if rules[at + 2] != to {
-        return false;
-    }
-    if rules[at + 3] != count {
-        return false;
-    }
-    if rules[at + 4] != above {
-        return false;
-    }
-    rules[at + 5] == below
 }
 
 // One of the first `stored` target transitions is this one.
-fn is_target_stored(targets: &[u32], stored: usize, state: u8, letter: u8, set: u32) -> bool
+fn is_target_stored(targets: &[u32], stored: usize, target: TargetWords) -> bool
     requires { (stored * target_stride ≤ length targets.now) × (stored ≤ max_targets) }
     ensures { (ts : List Transition) (t : List ℕ) → targets.now ≡ target_words ts ++ t → stored ≡ length ts
-        → result ≡ any (same_target state letter set) ts }
+        → result ≡ any (same_target target.state target.letter target.set) ts }
 {
-    for i in 0..stored {
-        if is_target_at(targets, i * Game::TARGET_STRIDE, state, letter, set) {
+    for t in 0..stored {
+        if is_target_at(targets, t, target) {
             return true;
         }
     }
     false
 }
 
-fn is_target_at(targets: &[u32], at: usize, state: u8, letter: u8, set: u32) -> bool
-    requires { at + target_stride ≤ length targets.now }
-    ensures { result ≡ same_target state letter set (target_at targets.now at) }
+#[tactic(auto, unfolding(crate::specs::Questions::same_target))]
+fn is_target_at(targets: &[u32], place: usize, target: TargetWords) -> bool
+    requires { (place + 1) * target_stride ≤ length targets.now }
+    ensures { result ≡ same_target target.state target.letter target.set (target_at targets.now (place * target_stride)) }
 {
-    if targets[at] != state as u32 {
-        return false;
-    }
-    if targets[at + 1] != letter as u32 {
-        return false;
-    }
-    targets[at + 2] == set
+    let at = place * Game::TARGET_STRIDE;
+    targets[at] == target.state as u32
+        && targets[at + 1] == target.letter as u32
+        && targets[at + 2] == target.set
 }
 
 // 7. Were fewer than 256 of its kind before?
@@ -417,19 +267,8 @@ fn is_room(rules: usize, targets: usize, command: Command) -> bool
     ensures { result ≡ has_room rules targets command }
 {
     match command {
-        Command::Rule {
-            from: _,
-            top: _,
-            to: _,
-            count: _,
-            above: _,
-            below: _,
-        } => rules < Game::MAX_RULES,
-        Command::Target {
-            state: _,
-            letter: _,
-            set: _,
-        } => targets < Game::MAX_TARGETS,
+        Command::Rule(_) => rules < Game::MAX_RULES,
+        Command::Target(_) => targets < Game::MAX_TARGETS,
         _ => true,
     }
 }
@@ -495,12 +334,10 @@ fn is_every_letter(heads: &[u64], p: u8, letters: u8) -> bool
 }
 
 // The rule stored at an offset is one of the head (p, a).
+#[tactic(auto, unfolding(crate::specs::Game::of_head))]
 pub fn is_rule_of(rules: &[u8], at: usize, p: u8, a: u8) -> bool
     requires { at + rule_stride ≤ length rules.now }
     ensures { result ≡ of_head p a (rule_at rules.now at 0) }
 {
-    if rules[at] != p {
-        return false;
-    }
-    rules[at + 1] == a
+    rules[at] == p && rules[at + 1] == a
 }

@@ -65,14 +65,8 @@ fn close(
         return Err(Question::Heads.at(at));
     }
     Ok(Game {
-        control: sizes.control,
-        states: sizes.states,
-        letters: sizes.letters,
-        abelard: sizes.abelard,
-        finals: sizes.finals,
-        rulecount: sizes.rulecount,
+        sizes,
         rules,
-        targetcount: sizes.targetcount,
         targets,
     })
 }

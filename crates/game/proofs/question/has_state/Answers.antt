@@ -1,11 +1,7 @@
-use mathlib.Core.Path.{refl, sym}
-use Rattle.game.specs.Sets.{has}
+use mathlib.Core.Path.{sym}
+use borrow.Author.Tests.{le-ltb}
 use Rattle.game.specs.SetLaws.{has_above}
 use Rattle.game.proofs.question.has_state.Goals as goal
 
-pub returns-then-s-ge-MAX_STATES : goal.returns-then-s-ge-MAX_STATES
-returns-then-s-ge-MAX_STATES c = sym (has_above 32 _ _ c.ranges.set.fits c.if-s-ge-MAX_STATES.true)
-
-pub returns : goal.returns
-unfolding has
-returns c = refl
+pub returns-else-s-lt-MAX_STATES : goal.returns-else-s-lt-MAX_STATES
+returns-else-s-lt-MAX_STATES c = rw (le-ltb _ _ c.if-s-lt-MAX_STATES.false) (sym (has_above 32 _ _ c.ranges.set.fits c.if-s-lt-MAX_STATES.false))

@@ -10,11 +10,11 @@ use Rattle.game.proofs.question.is_new.Goals as goal
 
 pub returns-then-not-is_marked : goal.returns-then-not-is_marked
 unfolding is_new
-returns-then-not-is_marked c = λ g e f. rw c.in-Rule.is (new-rule g _ f _ _ _ _ _ _ _ _ _ c.rule_word.ensures c.slot_of.ensures.0 c.is_marked.ensures (c.if-not-is_marked.true))
+returns-then-not-is_marked c = λ g e f. rw c.in-Rule.is (new-rule g _ f _ _ _ _ _ _ _ _ c.slot.ensures.0 c.is_marked.ensures (c.if-not-is_marked.true))
 
 pub returns-then-not-is_marked-2 : goal.returns-then-not-is_marked-2
 unfolding is_new
-returns-then-not-is_marked-2 c = λ g e f. rw c.in-Target.is (new-target g _ f _ _ _ _ _ c.slot_of-in-Target.ensures.0 c.is_marked-in-Target.ensures (c.if-not-is_marked-2.true))
+returns-then-not-is_marked-2 c = λ g e f. rw c.in-Target.is (new-target g _ f _ _ _ _ _ c.slot-in-Target.ensures.0 c.is_marked-in-Target.ensures (c.if-not-is_marked-2.true))
 
 pub returns-in-Abelard : goal.returns-in-Abelard
 unfolding is_new

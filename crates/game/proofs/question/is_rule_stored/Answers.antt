@@ -2,25 +2,27 @@ use mathlib.Core.Path.{refl, sym, ◌∙◌}
 use native.Mathlib.Omega.{arith}
 use borrow.Author.Count.{below_more}
 use Rattle.game.specs.Questions.{same_rule}
+use Rattle.game.proofs.Tests.{six}
 use Rattle.game.specs.StoredLaws.{rules-hit, rules-none}
 use Rattle.game.proofs.question.is_rule_stored.Goals as goal
 
-pub loop-i-init : goal.loop-i-init
-loop-i-init c = (omega arith, λ k h. absurd (omega arith))
+pub loop-r-init : goal.loop-r-init
+loop-r-init c = (omega arith, λ k h. absurd (omega arith))
 
-pub overflow_mul-i : goal.overflow_mul-i
-overflow_mul-i c = omega (arith, c.requires)
+pub at-requires : goal.at-requires
+at-requires c = omega (arith, c.requires)
 
-pub is_rule_at-requires : goal.is_rule_at-requires
-is_rule_at-requires c = omega (arith, c.requires)
-
-pub returns-then-is_rule_at : goal.returns-then-is_rule_at
+pub loop-r-preserved : goal.loop-r-preserved
 unfolding same_rule
-returns-then-is_rule_at c = rules-hit (same_rule _ _ _ _ _ _) (λ bytes at n. refl) _ _ c.loop-i.i (omega arith) (sym c.is_rule_at.ensures ∙ c.if-is_rule_at.true)
-
-pub loop-i-preserved : goal.loop-i-preserved
-loop-i-preserved c = (omega arith, below_more _ _ c.loop-i.invariant.1 (sym c.is_rule_at.ensures ∙ c.if-is_rule_at.false))
+loop-r-preserved c =
+    (omega arith, below_more _ _ c.loop-r.invariant.1 (rw (← six _ _ _ _ _ _) (rw c.at.ensures at (sym c.eq.ensures ∙ c.if-eq.false))))
 
 pub returns : goal.returns
 unfolding same_rule
-returns c = rules-none (same_rule _ _ _ _ _ _) (λ bytes at n. refl) _ _ (λ k h. c.loop-i.invariant.1 k (omega arith))
+returns c = rules-none (same_rule _ _ _ _ _ _) (λ bytes at n. refl) _ _ (λ k h. c.loop-r.invariant.1 k (omega arith))
+
+pub returns-then-eq : goal.returns-then-eq
+unfolding same_rule
+returns-then-eq c =
+    rules-hit (same_rule _ _ _ _ _ _) (λ bytes at n. refl) _ _ c.loop-r.r (omega arith)
+    (rw (← six _ _ _ _ _ _) (rw c.at.ensures at (sym c.eq.ensures ∙ c.if-eq.true)))

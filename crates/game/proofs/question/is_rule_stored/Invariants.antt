@@ -7,6 +7,6 @@ use Rattle.game.proofs.question.is_rule_stored.Given as goal
 
 -- No rule before place i is the one asked for.
 -- Assumes what the contract requires.
-abbrev pub invariant-loop-i : goal.invariant-loop-i
-invariant-loop-i l =
-    (l.i ≤ l.stored) × ((k : ℕ) → k < l.i → same_rule l.from l.top l.to l.count l.above l.below (rule_at l.rules (k * 6) 0) ≡ false)
+abbrev pub invariant-loop-r : goal.invariant-loop-r
+invariant-loop-r l =
+    (l.r ≤ l.stored) × ((k : ℕ) → k < l.r → same_rule l.rule.from l.rule.top l.rule.to l.rule.count l.rule.above l.rule.below (rule_at l.rules (k * 6) 0) ≡ false)

@@ -7,6 +7,6 @@ use Rattle.game.proofs.question.is_target_stored.Given as goal
 
 -- No transition before place i is the one asked for.
 -- Assumes what the contract requires.
-abbrev pub invariant-loop-i : goal.invariant-loop-i
-invariant-loop-i l =
-    (l.i ≤ l.stored) × ((k : ℕ) → k < l.i → same_target l.state l.letter l.set (target_at l.targets (k * 3)) ≡ false)
+abbrev pub invariant-loop-t : goal.invariant-loop-t
+invariant-loop-t l =
+    (l.t ≤ l.stored) × ((k : ℕ) → k < l.t → same_target l.target.state l.target.letter l.target.set (target_at l.targets (k * 3)) ≡ false)

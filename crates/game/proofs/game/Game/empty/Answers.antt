@@ -4,4 +4,4 @@ use Rattle.game.proofs.game.Game.empty.Goals as goal
 
 pub returns : goal.returns
 unfolding padded rule_bytes target_words
-returns c = refl
+returns c = rw c.none.ensures

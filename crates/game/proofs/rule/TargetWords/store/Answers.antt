@@ -2,7 +2,7 @@ use native.Mathlib.Omega.{arith}
 use mathlib.Core.Path.{refl}
 use lib.ListN.{length-set}
 use Rattle.game.proofs.Grown.{stores-target}
-use Rattle.game.proofs.game.store_target.Goals as goal
+use Rattle.game.proofs.rule.TargetWords.store.Goals as goal
 
 pub bounds-targets-at-2 : goal.bounds-targets-at-2
 bounds-targets-at-2 c = simp length-set (omega (arith, c.requires))
@@ -11,4 +11,4 @@ pub bounds-targets-at-3 : goal.bounds-targets-at-3
 bounds-targets-at-3 c = simp length-set (omega (arith, c.requires))
 
 pub returns : goal.returns
-returns c = (refl, λ ts n e. stores-target ts _ _ _ _ _ c.requires.0 n e)
+returns c = λ ts n e. stores-target ts _ _ c.args.self c.requires.0 n e

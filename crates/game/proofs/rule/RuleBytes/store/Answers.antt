@@ -2,7 +2,7 @@ use native.Mathlib.Omega.{arith}
 use mathlib.Core.Path.{refl}
 use lib.ListN.{length-set}
 use Rattle.game.proofs.Grown.{stores-rule}
-use Rattle.game.proofs.game.store_rule.Goals as goal
+use Rattle.game.proofs.rule.RuleBytes.store.Goals as goal
 
 pub bounds-rules-at-2 : goal.bounds-rules-at-2
 bounds-rules-at-2 c = simp length-set (omega (arith, c.requires))
@@ -20,4 +20,4 @@ pub bounds-rules-at-6 : goal.bounds-rules-at-6
 bounds-rules-at-6 c = simp length-set (omega (arith, c.requires))
 
 pub returns : goal.returns
-returns c = (refl, λ rs n e. stores-rule rs _ _ _ _ _ _ _ _ c.requires.0 n e)
+returns c = λ rs n e. stores-rule rs _ _ c.args.self c.requires.0 n e
