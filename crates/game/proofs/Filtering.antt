@@ -18,7 +18,6 @@ use Rattle.game.specs.ListLaws.{test, clash, both, any-in}
 use Rattle.game.specs.Game.{Rule, Transition, PushdownGame, empty_game}
 use Rattle.game.specs.Questions.{any, same_rule, same_target, add}
 use Rattle.game.specs.Marks.{slot_of, rule_word, rule_slot, target_slot, marked, Marks, Filtered}
-
 use Rattle.game.specs.Stated.{stated, stated_target}
 use Rattle.game.specs.declared.rule.RuleBytes.{RuleBytes}
 use Rattle.game.specs.declared.rule.TargetWords.{TargetWords}

@@ -12,7 +12,7 @@ use denote.Enum.Declared.{tag_of}
 use Rattle.game.specs.Limits.{max_control, max_states, max_letters, max_rules, max_targets, rule_stride, target_stride}
 use Rattle.game.specs.Game.{PushdownGame, empty_game}
 use Rattle.game.specs.Outcome.{Outcome, refused, number, unread_as}
-use Rattle.game.specs.Command.{Found, command_at}
+use Rattle.game.specs.Command.{command_at}
 use Rattle.std.specs.Prelude.{Ok, Err}
 use Rattle.game.specs.declared.command.Unread.{Unread}
 use Rattle.game.specs.declared.command.Unread.TheVariants.{Cut, Unknown}

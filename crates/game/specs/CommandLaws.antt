@@ -7,7 +7,6 @@ use Rattle.std.proofs.Math.Dec.{ltb}
 use borrow.Author.Tests.{ltb-true, ltb-false, lt-ltb}
 use Rattle.game.specs.Command.{Found, whole, set_of, decoded, command_at}
 use Rattle.std.specs.Prelude.{Ok, Err}
-use Rattle.game.specs.declared.command.Unread.{Unread}
 use Rattle.game.specs.declared.command.Unread.TheVariants.{Cut, Unknown}
 use Rattle.game.specs.ListLaws.{test}
 use Rattle.game.specs.declared.command.Command.{Command}

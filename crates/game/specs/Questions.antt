@@ -9,7 +9,6 @@ use Rattle.game.specs.Outcome.{Outcome, done, refused}
 use Rattle.game.specs.Stated.{stated, stated_target}
 use Rattle.game.specs.Command.{Found, command_at}
 use Rattle.std.specs.Prelude.{Ok, Err}
-use Rattle.game.specs.declared.command.Unread.{Unread}
 use Rattle.game.specs.declared.command.Unread.TheVariants.{Cut, Unknown}
 use Rattle.game.specs.declared.command.Command.{Command}
 use Rattle.game.specs.declared.command.Command.TheVariants.{Sizes, Abelard, Final, Rule as RuleIs, Target, End}

@@ -13,7 +13,6 @@ use Rattle.game.specs.Game.{PushdownGame, empty_game}
 use Rattle.game.specs.Outcome.{Outcome, done, refused}
 use Rattle.game.specs.Command.{Found, command_at}
 use Rattle.std.specs.Prelude.{Ok, Err}
-use Rattle.game.specs.declared.command.Unread.{Unread}
 use Rattle.game.specs.declared.command.Unread.TheVariants.{Cut, Unknown}
 use Rattle.game.specs.CommandLaws.{found_inside, found-further}
 use Rattle.game.specs.Questions.{ask, ask_found, add, every_head, ending, taken, met, walk, reading}

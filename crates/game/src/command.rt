@@ -1,6 +1,6 @@
 // Commands, and what stands at an offset of a game file.
-ghost use Rattle.std.specs.Prelude.{◌≡◌, ◌<◌, ◌+◌, length, get_or};
-ghost use Rattle.game.specs.Command.{whole, set_of, decoded, command_at};
+ghost use Rattle.std.specs.Prelude.{◌≡◌, ◌<◌, ◌+◌, length};
+ghost use Rattle.game.specs.Command.{set_of, operands_at, command_at};
 ghost use Rattle.game.specs.Outcome.{unread_as};
 
 use crate::refusal::Question;
@@ -50,91 +50,61 @@ pub fn command_at(file: &[u8], at: usize) -> Result<(Command, usize), Unread>
     if file.len() <= at {
         return Err(Unread::Cut);
     }
-    let code = file[at];
-    match code {
-        1 => sizes_at(file, at),
-        2 => abelard_at(file, at),
-        3 => final_at(file, at),
-        4 => rule_at(file, at),
-        5 => target_at(file, at),
+    match file[at] {
+        1 => {
+            let [control, states, letters] = operands::<3>(file, at)?;
+            let sizes = Command::Sizes {
+                control,
+                states,
+                letters,
+            };
+            Ok((sizes, at + 4))
+        }
+        2 => {
+            let [state] = operands::<1>(file, at)?;
+            Ok((Command::Abelard { state }, at + 2))
+        }
+        3 => {
+            let [state] = operands::<1>(file, at)?;
+            Ok((Command::Final { state }, at + 2))
+        }
+        4 => {
+            let [from, top, to, count, above, below] = operands::<6>(file, at)?;
+            let rule = RuleBytes {
+                from,
+                top,
+                to,
+                count,
+                above,
+                below,
+            };
+            Ok((Command::Rule(rule), at + 7))
+        }
+        5 => {
+            let [state, letter, b0, b1, b2, b3] = operands::<6>(file, at)?;
+            let target = TargetWords {
+                state,
+                letter,
+                set: set_of(b0, b1, b2, b3),
+            };
+            Ok((Command::Target(target), at + 7))
+        }
         255 => Ok((Command::End, at + 1)),
         _ => Err(Unread::Unknown),
     }
 }
 
-fn sizes_at(file: &[u8], at: usize) -> Result<(Command, usize), Unread>
+// The operands of a command that stands at an offset, which the file's end may cut.
+fn operands<const N: usize>(file: &[u8], at: usize) -> Result<[u8; N], Unread>
     requires { at < length file.now }
-    ensures { result ≡ decoded 1 file.now at }
+    ensures { result ≡ operands_at N file.now at }
 {
-    if file.len() - at < 4 {
+    if file.len() - at < N + 1 {
         return Err(Unread::Cut);
     }
-    let command = Command::Sizes {
-        control: file[at + 1],
-        states: file[at + 2],
-        letters: file[at + 3],
-    };
-    Ok((command, at + 4))
-}
-
-fn abelard_at(file: &[u8], at: usize) -> Result<(Command, usize), Unread>
-    requires { at < length file.now }
-    ensures { result ≡ decoded 2 file.now at }
-{
-    if file.len() - at < 2 {
-        return Err(Unread::Cut);
-    }
-    let command = Command::Abelard {
-        state: file[at + 1],
-    };
-    Ok((command, at + 2))
-}
-
-fn final_at(file: &[u8], at: usize) -> Result<(Command, usize), Unread>
-    requires { at < length file.now }
-    ensures { result ≡ decoded 3 file.now at }
-{
-    if file.len() - at < 2 {
-        return Err(Unread::Cut);
-    }
-    let command = Command::Final {
-        state: file[at + 1],
-    };
-    Ok((command, at + 2))
-}
-
-fn rule_at(file: &[u8], at: usize) -> Result<(Command, usize), Unread>
-    requires { at < length file.now }
-    ensures { result ≡ decoded 4 file.now at }
-{
-    if file.len() - at < 7 {
-        return Err(Unread::Cut);
-    }
-    let rule = RuleBytes {
-        from: file[at + 1],
-        top: file[at + 2],
-        to: file[at + 3],
-        count: file[at + 4],
-        above: file[at + 5],
-        below: file[at + 6],
-    };
-    Ok((Command::Rule(rule), at + 7))
-}
-
-fn target_at(file: &[u8], at: usize) -> Result<(Command, usize), Unread>
-    requires { at < length file.now }
-    ensures { result ≡ decoded 5 file.now at }
-{
-    if file.len() - at < 7 {
-        return Err(Unread::Cut);
-    }
-    let set = set_of(file[at + 3], file[at + 4], file[at + 5], file[at + 6]);
-    let target = TargetWords {
-        state: file[at + 1],
-        letter: file[at + 2],
-        set,
-    };
-    Ok((Command::Target(target), at + 7))
+    let mut bytes = [0; N];
+    bytes.copy_from_slice(&file[at + 1..at + 1 + N]);
+    Ok(bytes)
 }
 
 // A set of four bytes, lowest first.

@@ -64,7 +64,8 @@ impl RuleBytes {
     fn word(self) -> u32
         ensures { result ≡ rule_word self.to self.count self.above self.below }
     {
-        (((self.to as u32) * 4 + (self.count as u32)) * 64 + (self.above as u32)) * 64 + (self.below as u32)
+        (((self.to as u32) * 4 + (self.count as u32)) * 64 + (self.above as u32)) * 64
+            + (self.below as u32)
     }
 }
 

@@ -1,4 +1,3 @@
-use mathlib.Core.Path.{refl}
 use Rattle.game.specs.Stored.{padded, rule_bytes, target_words}
 use Rattle.game.proofs.game.Game.empty.Goals as goal
 

@@ -1,5 +1,4 @@
 use native.Mathlib.Omega.{arith}
-use mathlib.Core.Path.{refl}
 use lib.ListN.{length-set}
 use Rattle.game.proofs.Grown.{stores-rule}
 use Rattle.game.proofs.rule.RuleBytes.store.Goals as goal

@@ -1,5 +1,4 @@
 use native.Mathlib.Omega.{arith}
-use mathlib.Core.Path.{refl}
 use lib.ListN.{length-set}
 use Rattle.game.proofs.Grown.{stores-target}
 use Rattle.game.proofs.rule.TargetWords.store.Goals as goal
