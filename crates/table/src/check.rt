@@ -59,44 +59,31 @@ pub fn entries_form(
 }
 
 // The length that questions 10 and 13 ask: a multiple of 3 from 3 to 6,144 words.
+#[tactic(auto, unfolding(crate::specs::Table::length_in_form))]
 pub fn is_length(n: usize) -> bool
     ensures { result ≡ length_in_form n }
 {
-    if n < EntryWords::STRIDE {
-        return false;
-    }
-    if EntryWords::STRIDE * Game::MAX_ENTRIES < n {
-        return false;
-    }
-    n % EntryWords::STRIDE == 0
+    EntryWords::STRIDE <= n
+        && n <= EntryWords::STRIDE * Game::MAX_ENTRIES
+        && n % EntryWords::STRIDE == 0
 }
 
 // An entry is unused, or in form and after the one before it.
+#[tactic(auto, unfolding(crate::specs::Table::passes))]
 fn does_pass(sizes: Sizes, rules: &[u8], i: usize, before: EntryWords, entry: EntryWords) -> bool
     requires { Safe sizes rules.now }
     ensures { (g : PushdownGame) → Held g sizes rules.now
         → result ≡ passes g i before.first before.set before.rule entry.first entry.set entry.rule }
 {
-    if entry.is_unused() {
-        return true;
-    }
-    if !does_follow(i, before, entry) {
-        return false;
-    }
-    is_entry_in_form(sizes, rules, entry)
+    entry.is_unused() || (does_follow(i, before, entry) && is_entry_in_form(sizes, rules, entry))
 }
 
 // A used entry comes first, or after a used one of a lower key.
+#[tactic(auto, unfolding(crate::specs::Table::follows))]
 fn does_follow(i: usize, before: EntryWords, entry: EntryWords) -> bool
     ensures { result ≡ follows i before.first before.set before.rule (entry_of entry.first entry.set entry.rule) }
 {
-    if i == 0 {
-        return true;
-    }
-    if before.is_unused() {
-        return false;
-    }
-    before.key() < entry.key()
+    i == 0 || (!before.is_unused() && before.key() < entry.key())
 }
 
 // A used entry is in form.

@@ -4,7 +4,7 @@ ghost use Rattle.table.specs.Table.{unused, entry_of, key_of};
 ghost use Rattle.table.specs.Rows.{words_at, no_words};
 
 // State + 256 × letter + 65,536 × birthdate; the set; the rule field. All three are 0 where the entry is unused.
-#[derive(Clone, Copy)]
+#[derive(Clone, Copy, Debug, PartialEq, Eq)]
 pub struct EntryWords {
     pub first: u32,
     pub set: u32,
@@ -42,13 +42,7 @@ impl EntryWords {
     pub fn is_unused(self) -> bool
         ensures { result ≡ unused self.first self.set self.rule }
     {
-        if self.first != 0 {
-            return false;
-        }
-        if self.set != 0 {
-            return false;
-        }
-        self.rule == 0
+        self == EntryWords::none()
     }
 
     pub fn state(self) -> u8

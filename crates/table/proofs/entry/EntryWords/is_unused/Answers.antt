@@ -1,15 +1,14 @@
-use borrow.Author.Tests.{eq-eqb, ne_eqb}
+use mathlib.Core.Path.{◌≡◌, refl, ◌∙◌}
+use mathlib.Core.Bool.{Bool, true, false, ◌&&◌}
+use lib.Dec.{eqb}
 use Rattle.table.specs.Table.{unused}
 use Rattle.table.proofs.entry.EntryWords.is_unused.Goals as goal
 
-pub returns-then-self-ne0 : goal.returns-then-self-ne0
-unfolding unused
-returns-then-self-ne0 c = rw (ne_eqb _ _ c.if-self-ne0.true)
-
-pub returns-then-self-ne0-2 : goal.returns-then-self-ne0-2
-unfolding unused
-returns-then-self-ne0-2 c = rw (eq-eqb _ _ c.if-self-ne0.false, ne_eqb _ _ c.if-self-ne0-2.true)
+-- three tests taken together from either end
+three : (a b c : Bool) → (a && (b && c)) ≡ ((a && b) && c)
+three false b c = refl
+three true b c = refl
 
 pub returns : goal.returns
 unfolding unused
-returns c = rw (eq-eqb _ _ c.if-self-ne0.false, eq-eqb _ _ c.if-self-ne0-2.false)
+returns c = rw c.none.ensures at c.eq.ensures ∙ three (eqb c.args.self.first 0) (eqb c.args.self.set 0) (eqb c.args.self.rule 0)
