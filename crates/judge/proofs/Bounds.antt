@@ -11,7 +11,6 @@ use Rattle.game.specs.Limits.{max_states, max_stack}
 use Rattle.game.specs.Sets.{has}
 use Rattle.game.specs.ListLaws.{◌∈◌}
 use Rattle.game.specs.Game.{PushdownGame}
-use Rattle.game.specs.Outcome.{done}
 use Rattle.game.specs.Stored.{sizes_of}
 use Rattle.game.specs.Held.{Held as Stands}
 use Rattle.game.specs.Win.{is_abelard}

@@ -4,15 +4,14 @@ use mathlib.Core.Path.{◌≡◌}
 use mathlib.Core.Bool.{true, false, ◌&&◌}
 use mathlib.Core.List.{List}
 use native.Mathlib.Omega.{arith}
-use lib.ListN.{length, get_or, drop, drop_of_length-le}
+use lib.ListN.{length}
 use lib.Dec.{eqb, leb}
 use borrow.Author.Tests.{leb-true}
 use Rattle.game.specs.Limits.{max_entries}
 use Rattle.game.specs.ListLaws.{both}
 use Rattle.game.specs.Game.{PushdownGame}
-use Rattle.game.specs.Outcome.{done, refused}
-use Rattle.table.specs.RowLaws.{three}
-use Rattle.table.specs.Table.{length_in_form, passes, form_from, table_form}
+use Rattle.game.specs.Outcome.{refused}
+use Rattle.table.specs.Table.{length_in_form, form_from, table_form}
 
 module _ (g : PushdownGame) (words : List ℕ) where
   pub opens : length_in_form (length words) ≡ true → table_form g words ≡ form_from g 0 0 0 0 words

@@ -4,7 +4,6 @@ use native.Mathlib.Omega.{arith}
 use Rattle.game.specs.Stored.{held_sizes}
 use Rattle.game.specs.Held.{held, safe}
 use Rattle.game.specs.Outcome.{done, said}
-use Rattle.judge.specs.Judged.{judged}
 use Rattle.judge.specs.PositionLaws.{in_bytes}
 use Rattle.judge.proofs.Refusals.{no_table, no-position, both-passed, by-game, ready}
 use Rattle.judge.proofs.judging.judge_game.Goals as goal

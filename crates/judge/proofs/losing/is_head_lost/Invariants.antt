@@ -1,4 +1,3 @@
-use Prim.Native.Nat.{◌-◌}
 use Rattle.judge.specs.Worth.{no_worth}
 use Rattle.judge.proofs.Passes.{Passing, open_number}
 use Rattle.judge.proofs.losing.is_head_lost.Given as goal

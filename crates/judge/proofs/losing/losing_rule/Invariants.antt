@@ -1,4 +1,3 @@
-use Prim.Native.Nat.{◌-◌}
 use Rattle.judge.proofs.LostRules.{Scanning}
 use Rattle.judge.proofs.losing.losing_rule.Given as goal
 

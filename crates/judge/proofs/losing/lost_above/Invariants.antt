@@ -1,4 +1,4 @@
-use Prim.Native.Nat.{ℕ, ◌-◌}
+use Prim.Native.Nat.{ℕ}
 use Rattle.table.specs.Table.{entries_of}
 use Rattle.judge.specs.Machine.{head_lost}
 use Rattle.judge.proofs.LostRules.{Marked}

@@ -1,4 +1,3 @@
-use Prim.Native.Nat.{◌-◌}
 use Rattle.judge.specs.Machine.{rule_number}
 use Rattle.judge.proofs.Passes.{Passing}
 use Rattle.judge.proofs.verdict.least_rule.Given as goal

@@ -1,4 +1,3 @@
-use Prim.Native.Nat.{◌-◌}
 use Rattle.judge.proofs.Filling.{Filled, empty_worth}
 use Rattle.judge.proofs.worth.empty_worths.Given as goal
 

@@ -1,4 +1,3 @@
-use Prim.Native.Nat.{◌-◌}
 use Rattle.judge.specs.Machine.{head_number}
 use Rattle.judge.proofs.Passes.{Passing}
 use Rattle.judge.proofs.worth.head_worth.Given as goal

@@ -1,4 +1,3 @@
-use Prim.Native.Nat.{◌-◌}
 use Rattle.judge.proofs.Filling.{Filled, step_number}
 use Rattle.judge.proofs.worth.letter_step.Given as goal
 

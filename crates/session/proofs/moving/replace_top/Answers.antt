@@ -1,4 +1,3 @@
-use mathlib.Core.Path.{◌∙◌}
 use native.Mathlib.Omega.{arith}
 use Rattle.session.proofs.Turn.{too-tall, replaces}
 use Rattle.session.proofs.moving.replace_top.Goals as goal

@@ -1,6 +1,6 @@
 -- What question 13 says of the part is what it says of its words from place i on, the entry before them in hand. An entry that does not
 -- pass is the place. Assumes what the contract requires.
-use Prim.Native.Nat.{◌+◌, ◌*◌, ◌-◌, ◌/◌, ◌≤◌}
+use Prim.Native.Nat.{◌+◌, ◌*◌, ◌/◌, ◌≤◌}
 use mathlib.Core.Path.{◌≡◌}
 use lib.ListN.{length, drop}
 use Rattle.game.specs.Game.{PushdownGame}

@@ -1,5 +1,4 @@
 use mathlib.Core.Path.{sym, ◌∙◌}
-use native.Mathlib.Omega.{arith}
 use Rattle.table.proofs.Pass.{opens, refuses-length, few}
 use Rattle.table.proofs.check.table_form.Goals as goal
 
