@@ -1,4 +1,4 @@
--- Areas that are written word by word: the first words zeroed, and sets put after what is there.
+-- Sets put into an area word by word, after what is there.
 use Prim.Native.Nat.{ℕ, ◌+◌, ◌*◌, ◌<◌}
 use native.Mathlib.Omega.{arith}
 use mathlib.Core.Path.{◌≡◌, refl, ◌∙◌}
@@ -7,23 +7,7 @@ use mathlib.Core.List.{List}
 use lib.ListN.{length, get_or, set, length-set}
 use lib.Seq.{get_or-set_same, get_or-set_other}
 use Rattle.game.specs.ListLaws.{below_suc}
-use Rattle.enumeration.specs.Lists.{Cleared, Copied}
-
-pub none-cleared : (words : List ℕ) → Cleared words 0 words
-none-cleared words = record { long = refl; zeros = λ k l. absurd (omega arith); others = λ k l. refl }
-
-pub next-cleared : (words : List ℕ) (i : ℕ) (after : List ℕ) → Cleared words i after → i < length words → Cleared words (i + 1) (set after i 0)
-next-cleared words i after d h =
-    record {
-      long = rw length-set d.long;
-      zeros =
-          λ k l.
-          ⊎_elim
-          (λ (p : k < i). get_or-set_other after i k 0 0 (λ s. omega arith) ∙ d.zeros k p)
-          (λ (p : k ≡ i). rw p (get_or-set_same after i 0 0 (omega (arith, d.long))))
-          (below_suc (omega arith));
-      others = λ k l. get_or-set_other after i k 0 0 (λ s. omega arith) ∙ d.others k (omega arith);
-    }
+use Rattle.enumeration.specs.Lists.{Copied}
 
 pub none-copied : (lists sets : List ℕ) (room : ℕ) → Copied lists sets 0 room lists
 none-copied lists sets room = record { long = refl; copies = λ k l. absurd (omega arith); before = λ k l. refl }

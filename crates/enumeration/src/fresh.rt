@@ -66,10 +66,8 @@ pub fn set_fresh(fresh: &mut [u32], work: &[u32], count: usize, late: u32)
     ensures marked { length fresh.old ≡ 256 → Marked work.now fresh.new late count }
     ensures fresh_len_unchanged { length fresh.new ≡ length fresh.old }
 {
-    let mut i = 0;
-    while i < count {
+    for i in 0..count {
         mark(fresh, work, i, late);
-        i += 1;
     }
 }
 
@@ -101,14 +99,12 @@ pub fn last_fresh(rules: &[u8], fresh: &[u32], r: usize, end: usize, p: u8, a: u
     requires { (end * 6 ≤ length rules.now) × (end ≤ max_rules) }
     ensures { SettledFrom rules.now fresh.now end p a result }
 {
-    let mut k = end;
-    while r < k {
-        if is_fresh(rules, fresh, k - 1, p, a) {
-            return k;
+    for k in (r..end).rev() {
+        if is_fresh(rules, fresh, k, p, a) {
+            return k + 1;
         }
-        k -= 1;
     }
-    k
+    r
 }
 
 // Whether rule r is one of a head, and a run of it can have an entry of the last round.

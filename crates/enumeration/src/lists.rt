@@ -1,7 +1,7 @@
 // The ends of rules, kept as lists of sets: one list after another in one area, and for each rule two words that say where its
 // list begins and where it ends. A rule whose list is empty is not listed.
 ghost use Rattle.std.specs.Prelude.{◌≡◌, true, ◌+◌, ◌*◌, ◌<◌, ◌≤◌, min, length};
-ghost use Rattle.enumeration.specs.Lists.{start_of, stop_of, Zero, Cleared, Copied, Kept};
+ghost use Rattle.enumeration.specs.Lists.{start_of, stop_of, Copied, Kept};
 
 // Room for the sets of all lists.
 pub const LISTED: usize = 4096;
@@ -49,30 +49,6 @@ pub fn is_listed(lists: &[u32], spans: &[usize], r: usize) -> bool
     list_start(spans, r) < list_end(spans, r, lists.len())
 }
 
-// No rule is listed any more.
-pub fn clear_spans(spans: &mut [usize])
-    ensures zero { Zero spans.new }
-    ensures spans_len_unchanged { length spans.new ≡ length spans.old }
-{
-    let mut i = 0;
-    while i < spans.len() {
-        spans[i] = 0;
-        i += 1;
-    }
-}
-
-// Zeroes the first n words of an area.
-pub fn clear_words(words: &mut [u32], n: usize)
-    requires { n ≤ length words.old }
-    ensures { Cleared words.old n words.new }
-{
-    let mut i = 0;
-    while i < n {
-        words[i] = 0;
-        i += 1;
-    }
-}
-
 // The sets of the first `count` entries of an area, kept as the list of rule r where there is room for them from `room` on: where
 // the room begins afterwards.
 pub fn keep_list(
@@ -100,9 +76,7 @@ fn copy_sets(lists: &mut [u32], sets: &[u32], count: usize, room: usize)
     requires { (count * 3 ≤ length sets.now) × (room + count ≤ length lists.old) }
     ensures { Copied lists.old sets.now count room lists.new }
 {
-    let mut k = 0;
-    while k < count {
+    for k in 0..count {
         lists[room + k] = sets[k * 3 + 1];
-        k += 1;
     }
 }

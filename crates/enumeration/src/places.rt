@@ -77,10 +77,8 @@ pub fn set_places(places: &mut [usize], work: &[u32], count: usize, states: u8, 
         → PlacedTo work.now count places.new letters (states * 64) }
     ensures places_len_unchanged { length places.new ≡ length places.old }
 {
-    let mut q = 0;
-    while q < states {
+    for q in 0..states {
         set_letters(places, work, count, q, letters);
-        q += 1;
     }
 }
 
@@ -92,10 +90,8 @@ fn set_letters(places: &mut [usize], work: &[u32], count: usize, q: u8, letters:
         → PlacedTo work.now count places.new letters ((q + 1) * 64) }
     ensures places_len_unchanged { length places.new ≡ length places.old }
 {
-    let mut a = 0;
-    while a < letters {
+    for a in 0..letters {
         set_head(places, work, count, q, a);
-        a += 1;
     }
 }
 

@@ -113,15 +113,13 @@ pub fn rules_from(
     }
     let end = end_at(places, job.count, rules[at + 2], rules[at + 4]);
     let mut filled = count;
-    let mut i = start_at(places, job.count, rules[at + 2], rules[at + 4]);
-    while i < end {
+    for i in start_at(places, job.count, rules[at + 2], rules[at + 4])..end {
         filled = runs_with(
             job, rules, places, fresh, work, table, memo, lists, spans, filled, r, i, union, late,
         );
         if table.len() / EntryWords::STRIDE < filled {
             return filled;
         }
-        i += 1;
     }
     filled
 }
@@ -156,8 +154,7 @@ fn rules_by(
 {
     let end = list_end(spans, r, lists.len());
     let mut filled = count;
-    let mut i = list_start(spans, r);
-    while i < end {
+    for i in list_start(spans, r)..end {
         filled = rules_after(
             job,
             rules,
@@ -176,7 +173,6 @@ fn rules_by(
         if table.len() / EntryWords::STRIDE < filled {
             return filled;
         }
-        i += 1;
     }
     filled
 }

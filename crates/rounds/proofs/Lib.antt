@@ -21,5 +21,4 @@ pub mod GrownRound
 pub mod InsertLaws
 pub mod StoredRows
 pub mod Inserting
-pub mod Moving
 pub mod Heads

@@ -1,13 +1,11 @@
 // The rounds: what they are, what solving is, and the theorems about both, in `specs/`; and the code that every way of taking a
-// round uses: the lent areas cleared and copied, one entry added to a table, the next rule of a head, the highest state of a set.
+// round uses: one entry added to a table, the next rule of a head, the highest state of a set.
 //
 // It leaves out how a round is taken, which is above it.
 #![tactic(auto)]
 
 mod adding;
-mod area;
 mod scan;
 
 pub use adding::{insert, put};
-pub use area::{clear, copy};
 pub use scan::{highest, next_rule};

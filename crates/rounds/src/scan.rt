@@ -10,12 +10,10 @@ pub fn next_rule(rules: &[u8], end: usize, from: usize, state: u8, letter: u8) -
     requires { (end * 6 ≤ length rules.now) × (from ≤ end) × (end ≤ max_rules) }
     ensures { NextRule rules.now end from state letter result }
 {
-    let mut r = from;
-    while r < end {
+    for r in from..end {
         if is_rule_of(rules, r * Game::RULE_STRIDE, state, letter) {
             return r;
         }
-        r += 1;
     }
     end
 }

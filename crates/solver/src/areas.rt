@@ -75,14 +75,7 @@ fn family_words(numbering: Numbering, states: u8) -> usize
 fn are_below(list: &[u8], limit: u8) -> bool
     ensures { result ≡ true → (i : ℕ) → i < length list.now → get_or list.now i 0 < limit }
 {
-    let mut i = 0;
-    while i < list.len() {
-        if limit <= list[i] {
-            return false;
-        }
-        i += 1;
-    }
-    true
+    list.iter().all(|x| *x < limit)
 }
 
 // How many words a family of sets of so many elements has.

@@ -19,7 +19,6 @@ use crate::solving::{Solution, give_up};
 use family::raising_table;
 use game::{Game, Sizes};
 use noting::{mark_rules, note_targets, set_masks};
-use rounds::clear;
 use saturation::{Counts, link, take_round};
 use table::EntryWords;
 use unions::write_entries;
@@ -249,6 +248,6 @@ fn settle(
     ensures places_len_unchanged { length places.new ≡ length places.old }
 {
     write_entries(table, log, entries, all, places, states, letters, heads, n);
-    clear(log);
+    log.fill(0);
     Solution::Solved { entries, rounds }
 }

@@ -14,7 +14,7 @@ ghost use Rattle.solver.specs.Given.{Given, solving_rounds, refused_as};
 
 use crate::areas::rounds_by;
 use game::{Answer, Game, Sizes};
-use rounds::{clear, copy, insert};
+use rounds::insert;
 use table::{EntryWords, is_length};
 use unions::elements_of;
 use walk::take_wide;
@@ -33,22 +33,22 @@ pub fn solve(file: &[u8], table: &mut [u32], work: &mut [u32]) -> Solution
     ensures { called result table.new work.new
         ≡ solve_call file.now (length table.old) (length work.old) }
 {
-    clear(table);
+    table.fill(0);
     let reading = Game::read(file);
     let answer = reading.answer;
     let Answer::Done = answer else {
-        clear(work);
+        work.fill(0);
         return refusal(answer);
     };
     if table.len() != work.len() {
-        clear(work);
+        work.fill(0);
         return Solution::Refused {
             question: 10,
             place: 0,
         };
     }
     if !is_length(table.len()) {
-        clear(work);
+        work.fill(0);
         return Solution::Refused {
             question: 10,
             place: 0,
@@ -116,8 +116,7 @@ fn round_zero(sizes: Sizes, rules: &[u8], targets: &[u32], table: &mut [u32]) ->
     ensures table_len_unchanged { length table.new ≡ length table.old }
 {
     let mut count = 0;
-    let mut t = 0;
-    while t < sizes.targetcount {
+    for t in 0..sizes.targetcount {
         let at = t * Game::TARGET_STRIDE;
         let entry = EntryWords {
             first: targets[at] + 256 * targets[at + 1],
@@ -125,7 +124,6 @@ fn round_zero(sizes: Sizes, rules: &[u8], targets: &[u32], table: &mut [u32]) ->
             rule: 0,
         };
         count = insert(table, count, entry);
-        t += 1;
     }
     count
 }
@@ -145,10 +143,10 @@ fn rounds_from(
     let mut count = first;
     let mut i = 0u32;
     loop {
-        copy(table, work);
+        work.copy_from_slice(table);
         let next = take_wide(sizes, rules, work, table, count, i + 1);
         if next == count {
-            clear(work);
+            work.fill(0);
             return Solution::Solved {
                 entries: count,
                 rounds: i,
@@ -172,8 +170,8 @@ pub fn give_up(begun: &mut [u32], work: &mut [u32], question: u8, place: usize) 
     ensures begun_len_unchanged { length begun.new ≡ length begun.old }
     ensures work_len_unchanged { length work.new ≡ length work.old }
 {
-    clear(begun);
-    clear(work);
+    begun.fill(0);
+    work.fill(0);
     Solution::Refused { question, place }
 }
 

@@ -170,3 +170,6 @@ pub zero-at : (n : ℕ) → Zero (replicate n 0)
 zero-at zero j = refl
 zero-at (suc n) zero = refl
 zero-at (suc n) (suc j) = zero-at n j
+
+pub zeroed : (words : List ℕ) (n : ℕ) → words ≡ replicate n 0 → Zero words
+zeroed words n e = subst Zero (sym e) (zero-at n)

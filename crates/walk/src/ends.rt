@@ -14,7 +14,7 @@ ghost use Rattle.enumeration.specs.Lists.{Listed, Zero, Bounded};
 ghost use Rattle.enumeration.specs.Places.{Placing};
 ghost use Rattle.walk.specs.RoundJobs.{alone, Blank};
 
-use enumeration::{Job, LINE, clear_spans, clear_words, end_at, keep_list, runs_with, start_at};
+use enumeration::{Job, LINE, end_at, keep_list, runs_with, start_at};
 use game::Game;
 use rounds::next_rule;
 use table::EntryWords;
@@ -71,7 +71,7 @@ fn list_rules(
     ensures lists_len_unchanged { length lists.new ≡ length lists.old }
     ensures spans_len_unchanged { length spans.new ≡ length spans.old }
 {
-    clear_spans(spans);
+    spans.fill(0);
     let mut sets = [0u32; ENDS * EntryWords::STRIDE];
     let mut memo = [0u32; MARKS * LINE];
     let mut room = 0;
@@ -114,13 +114,13 @@ fn list_rule(
         return room;
     }
     let count = find_ends(job, rules, places, fresh, work, sets, memo, r);
-    clear_words(memo, memo.len());
+    memo.fill(0);
     if ENDS < count {
-        clear_words(sets, sets.len());
+        sets.fill(0);
         return room;
     }
     let after = keep_list(lists, spans, sets, count, r, room);
-    clear_words(sets, sets.len());
+    sets.fill(0);
     after
 }
 
@@ -150,15 +150,13 @@ fn find_ends(
     let at = r * Game::RULE_STRIDE;
     let end = end_at(places, alone.count, rules[at + 2], rules[at + 4]);
     let mut count = 0;
-    let mut i = start_at(places, alone.count, rules[at + 2], rules[at + 4]);
-    while i < end {
+    for i in start_at(places, alone.count, rules[at + 2], rules[at + 4])..end {
         count = runs_with(
             alone, rules, places, fresh, work, sets, memo, &none, &unlisted, count, r, i, 0, 0,
         );
         if sets.len() / EntryWords::STRIDE < count {
             return count;
         }
-        i += 1;
     }
     count
 }

@@ -91,8 +91,7 @@ fn add_runs(
     let heads = (sizes.control as usize) * letters;
     let rulecount = sizes.rulecount;
     let mut count = old;
-    let mut turn = 0;
-    'round: while turn < heads * 2 {
+    'round: for turn in 0..heads * 2 {
         let head = turn % heads;
         let p = (head / letters) as u8;
         let a = (head % letters) as u8;
@@ -100,20 +99,18 @@ fn add_runs(
         while r < rulecount {
             let job = job_of(sizes, rules, fresh, p, a, birthdate, r, old);
             let end = runs_end(rules, places, r, old, job.last, late);
-            let mut i = runs_start(rules, places, r, old);
-            list_later(job, rules, places, fresh, work, lists, spans, r, i, end);
-            while i < end {
+            let start = runs_start(rules, places, r, old);
+            list_later(job, rules, places, fresh, work, lists, spans, r, start, end);
+            for i in start..end {
                 count = run_at(
                     job, rules, places, fresh, work, table, memo, lists, spans, count, r, i, late,
                 );
                 if size < count {
                     break 'round;
                 }
-                i += 1;
             }
             r = next_rule(rules, rulecount, job.end, p, a);
         }
-        turn += 1;
     }
     count
 }

@@ -1,5 +1,4 @@
--- The entries before entry i are noted. What falls is the number of entries left. Assumes what the contract requires.
-use Prim.Native.Nat.{◌-◌}
+-- The entries before entry i are noted. Assumes what the contract requires.
 use mathlib.Core.Path.{◌≡◌}
 use lib.ListN.{length}
 use Rattle.enumeration.specs.Past.{Marked}
@@ -7,6 +6,3 @@ use Rattle.enumeration.proofs.fresh.set_fresh.Given as goal
 
 abbrev pub invariant-loop-i : goal.invariant-loop-i
 invariant-loop-i l = (length l.fresh ≡ length l.initial.fresh) × (length l.initial.fresh ≡ 256 → Marked l.work l.fresh l.late l.i)
-
-abbrev pub decreases-loop-i : goal.decreases-loop-i
-decreases-loop-i l = l.count - l.i

@@ -1,10 +1,7 @@
--- The sets of the entries before entry k are copied. What falls is the number of entries left. Assumes what the contract requires.
-use Prim.Native.Nat.{◌-◌, ◌≤◌}
+-- The sets of the entries before entry k are copied. Assumes what the contract requires.
+use Prim.Native.Nat.{◌≤◌}
 use Rattle.enumeration.specs.Lists.{Copied}
 use Rattle.enumeration.proofs.lists.copy_sets.Given as goal
 
 abbrev pub invariant-loop-k : goal.invariant-loop-k
 invariant-loop-k l = (l.k ≤ l.count) × Copied l.initial.lists l.sets l.k l.room l.lists
-
-abbrev pub decreases-loop-k : goal.decreases-loop-k
-decreases-loop-k l = l.count - l.k

@@ -1,5 +1,5 @@
--- The places of every head before this one are written. What falls is the number of letters left. Assumes what the contract requires.
-use Prim.Native.Nat.{◌+◌, ◌*◌, ◌-◌, ◌<◌, ◌≤◌}
+-- The places of every head before this one are written. Assumes what the contract requires.
+use Prim.Native.Nat.{◌+◌, ◌*◌, ◌<◌, ◌≤◌}
 use mathlib.Core.Path.{◌≡◌}
 use lib.ListN.{length}
 use Rattle.enumeration.specs.Places.{PlacedTo}
@@ -7,6 +7,3 @@ use Rattle.enumeration.proofs.places.set_letters.Given as goal
 
 abbrev pub invariant-loop-a : goal.invariant-loop-a
 invariant-loop-a l = (length l.places ≡ length l.initial.places) × (l.a ≤ l.letters) × (length l.initial.places ≡ 4096 → l.q < 32 → l.letters ≤ 64 → PlacedTo l.work l.count l.initial.places l.letters (l.q * 64) → PlacedTo l.work l.count l.places l.letters (l.q * 64 + l.a))
-
-abbrev pub decreases-loop-a : goal.decreases-loop-a
-decreases-loop-a l = l.letters - l.a

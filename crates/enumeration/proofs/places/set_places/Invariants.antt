@@ -1,6 +1,5 @@
--- The places of the heads of every state before this one are written. What falls is the number of states left. Assumes what the
--- contract requires.
-use Prim.Native.Nat.{◌*◌, ◌-◌, ◌≤◌}
+-- The places of the heads of every state before this one are written. Assumes what the contract requires.
+use Prim.Native.Nat.{◌*◌, ◌≤◌}
 use mathlib.Core.Path.{◌≡◌}
 use lib.ListN.{length}
 use Rattle.enumeration.specs.Places.{PlacedTo}
@@ -8,6 +7,3 @@ use Rattle.enumeration.proofs.places.set_places.Given as goal
 
 abbrev pub invariant-loop-q : goal.invariant-loop-q
 invariant-loop-q l = (length l.places ≡ length l.initial.places) × (l.q ≤ l.states) × (length l.initial.places ≡ 4096 → l.states ≤ 32 → l.letters ≤ 64 → PlacedTo l.work l.count l.places l.letters (l.q * 64))
-
-abbrev pub decreases-loop-q : goal.decreases-loop-q
-decreases-loop-q l = l.states - l.q

@@ -54,11 +54,5 @@ decreases-pass_states-loop-job l = remaining l.nexts l.job.count l.depth l.i
 abbrev pub invariant-rules_by-loop-i : goal.invariant-rules_by-loop-i
 invariant-rules_by-loop-i l = (length l.table ≡ length l.initial.table) × (length l.memo ≡ length l.initial.memo) × (start_of l.spans l.r ≤ l.i) × ((g : PushdownGame) (old : List Entry) (birthdate n : ℕ) (s : Growing) → Entered g old birthdate n l.job l.rules l.work l.initial.table l.count l.initial.memo s → Placing g l.work l.job.count l.places → Aging g old birthdate l.job l.fresh → Listed g old l.lists l.spans → Whole g l.job l.r → Coming l.lists l.spans l.r g old birthdate n l.job l.rules l.work l.union s l.i l.table l.filled l.memo)
 
-abbrev pub decreases-rules_by-loop-i : goal.decreases-rules_by-loop-i
-decreases-rules_by-loop-i l = l.end - l.i
-
 abbrev pub invariant-rules_from-loop-i : goal.invariant-rules_from-loop-i
 invariant-rules_from-loop-i l = (length l.table ≡ length l.initial.table) × (length l.memo ≡ length l.initial.memo) × ((g : PushdownGame) (old : List Entry) (birthdate n : ℕ) (s : Growing) → Entered g old birthdate n l.job l.rules l.work l.initial.table l.count l.initial.memo s → Placing g l.work l.job.count l.places → Aging g old birthdate l.job l.fresh → Listed g old l.lists l.spans → Late g l.job l.from → Past birthdate n l.late (map (entry_at l.job.state l.job.letter birthdate l.job.field) (rest_runs g (older birthdate old) (rules_between g l.job.state l.job.letter l.from l.job.end) l.union)) s → Scanning g old birthdate n l.job l.rules l.work (begin_of g old l.job.state l.job.letter l.job.end l.r l.union) s l.i l.table l.filled l.memo)
-
-abbrev pub decreases-rules_from-loop-i : goal.decreases-rules_from-loop-i
-decreases-rules_from-loop-i l = l.end - l.i

@@ -15,12 +15,6 @@ is_rule_of-requires c = omega (arith, c.requires)
 pub returns-then-is_rule_of : goal.returns-then-is_rule_of
 returns-then-is_rule_of c = finds _ _ _ _ _ c.loop-r.r c.loop-r.invariant c.loop-r-test.true (sym c.is_rule_of.ensures ∙ c.if-is_rule_of.true)
 
-pub overflow_add-r : goal.overflow_add-r
-overflow_add-r c = omega (arith, c.requires)
-
-pub loop-r-smaller : goal.loop-r-smaller
-loop-r-smaller c = omega arith
-
 pub loop-r-preserved : goal.loop-r-preserved
 loop-r-preserved c = skips _ _ _ _ _ c.loop-r.r c.loop-r.invariant c.loop-r-test.true (sym c.is_rule_of.ensures ∙ c.if-is_rule_of.false)
 

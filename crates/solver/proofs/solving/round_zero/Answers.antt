@@ -40,12 +40,6 @@ offset_bounds-targets-at-in-loop-t-2 c = omega (arith, counted _ _ _ _ c.require
 pub bounds-targets-at-in-loop-t-2 : goal.bounds-targets-at-in-loop-t-2
 bounds-targets-at-in-loop-t-2 c = omega (arith, counted _ _ _ _ c.requires.1, many _ _ _ _ c.requires.1)
 
-pub overflow_add-t : goal.overflow_add-t
-overflow_add-t c = omega (arith, counted _ _ _ _ c.requires.1, many _ _ _ _ c.requires.1)
-
-pub loop-t-smaller : goal.loop-t-smaller
-loop-t-smaller c = omega arith
-
 pub loop-t-preserved : goal.loop-t-preserved
 loop-t-preserved c = (c.insert-count.ensures.table_len_unchanged ∙ c.loop-t.invariant.0, λ g n h e. let a = c.loop-t.invariant.1 g n h e in adding-next g _ _ _ h _ c.loop-t-test.true n _ _ a _ _ (c.insert-count.ensures.by_index n a.now (long_of n _ _ a.now a.filled) a.filled (entry-small g _ _ _ h _ c.loop-t-test.true)))
 

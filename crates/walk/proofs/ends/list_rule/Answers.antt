@@ -3,9 +3,8 @@
 use Prim.Native.Nat.{◌*◌}
 use native.Mathlib.Omega.{arith}
 use mathlib.Core.Path.{refl, ◌∙◌}
-use Rattle.enumeration.specs.ListedLaws.{all-cleared}
 use Rattle.walk.proofs.Alone.{zero-stored, found}
-use Rattle.walk.proofs.Listing.{listed_more, bounded-more}
+use Rattle.walk.proofs.Listing.{listed_more, bounded-more, zeroed}
 use Rattle.walk.proofs.ends.list_rule.Goals as goal
 
 pub returns-then-rules-r-ne2 : goal.returns-then-rules-r-ne2
@@ -26,9 +25,9 @@ pub returns-then-count-gt-ENDS : goal.returns-then-count-gt-ENDS
 returns-then-count-gt-ENDS c =
     record {
       listed = λ g old b stands pl ag hit zs zm bd li. li;
-      upper_bound = (c.requires.5, λ bd. bd, λ z. all-cleared _ _ _ c.clear_words-then-count-gt-ENDS.ensures (omega arith), λ z. all-cleared _ _ _ c.clear_words.ensures (omega arith));
-      sets_len_unchanged = c.clear_words-then-count-gt-ENDS.ensures.long ∙ c.find_ends-count.ensures.sets_len_unchanged;
-      memo_len_unchanged = c.clear_words.ensures.long ∙ c.find_ends-count.ensures.memo_len_unchanged;
+      upper_bound = (c.requires.5, λ bd. bd, λ z. zeroed _ _ (c.fill-then-count-gt-ENDS.ensures.after (λ y e. e)), λ z. zeroed _ _ (c.fill.ensures.after (λ y e. e)));
+      sets_len_unchanged = c.fill-then-count-gt-ENDS.ensures.len ∙ c.find_ends-count.ensures.sets_len_unchanged;
+      memo_len_unchanged = c.fill.ensures.len ∙ c.find_ends-count.ensures.memo_len_unchanged;
       lists_len_unchanged = refl;
       spans_len_unchanged = refl;
     }
@@ -40,9 +39,9 @@ pub returns : goal.returns
 returns c =
     record {
       listed = λ g old b stands pl ag hit zs zm bd li. let f = found _ _ b _ _ 1024 _ _ (c.find_ends-count.ensures.filled g old b 1024 stands pl ag hit c.if-rules-r-ne2.false (zero-stored 1024 _ c.requires.2 zs) (λ k. zm (k * 3))) c.if-count-gt-ENDS.false in listed_more g old _ _ _ _ _ _ _ _ _ li bd (omega (arith, c.requires.4, c.requires.0.few, c.requires.1)) 1024 f.entries f.stored f.are f.every c.keep_list-after.ensures;
-      upper_bound = (omega (arith, c.keep_list-after.ensures.within, c.requires.3), λ bd. bounded-more _ _ _ _ _ _ _ _ _ bd (omega (arith, c.requires.4, c.requires.0.few, c.requires.1)) c.keep_list-after.ensures, λ z. all-cleared _ _ _ c.clear_words-2.ensures (omega arith), λ z. all-cleared _ _ _ c.clear_words.ensures (omega arith));
-      sets_len_unchanged = c.clear_words-2.ensures.long ∙ c.find_ends-count.ensures.sets_len_unchanged;
-      memo_len_unchanged = c.clear_words.ensures.long ∙ c.find_ends-count.ensures.memo_len_unchanged;
+      upper_bound = (omega (arith, c.keep_list-after.ensures.within, c.requires.3), λ bd. bounded-more _ _ _ _ _ _ _ _ _ bd (omega (arith, c.requires.4, c.requires.0.few, c.requires.1)) c.keep_list-after.ensures, λ z. zeroed _ _ (c.fill-2.ensures.after (λ y e. e)), λ z. zeroed _ _ (c.fill.ensures.after (λ y e. e)));
+      sets_len_unchanged = c.fill-2.ensures.len ∙ c.find_ends-count.ensures.sets_len_unchanged;
+      memo_len_unchanged = c.fill.ensures.len ∙ c.find_ends-count.ensures.memo_len_unchanged;
       lists_len_unchanged = c.keep_list-after.ensures.long;
       spans_len_unchanged = c.keep_list-after.ensures.wide;
     }

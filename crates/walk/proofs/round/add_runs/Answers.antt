@@ -22,8 +22,8 @@ overflow_mul-heads c = omega (arith, few-heads _ c.args.sizes.letters c.requires
 pub round-init : goal.round-init
 round-init c = (refl, refl, starts _ _ _ _ _ _ _ _ _ _ _ _ _, c.requires.4, c.requires.5, λ g es n h marked. listed-none g es _ _ c.requires.6)
 
-pub overflow_mul-heads-in-round : goal.overflow_mul-heads-in-round
-overflow_mul-heads-in-round c = omega (arith, few-heads _ c.args.sizes.letters c.requires.0.control (omega arith))
+pub overflow_mul-turn-end : goal.overflow_mul-turn-end
+overflow_mul-turn-end c = omega (arith, few-heads _ c.args.sizes.letters c.requires.0.control (omega arith))
 
 pub nonzero_div-p : goal.nonzero_div-p
 nonzero_div-p c = c.requires.1
@@ -50,7 +50,7 @@ pub list_later-requires : goal.list_later-requires
 list_later-requires c = let able = at-able _ _ c.args.work.now _ _ _ _ _ _ c.requires.0 c.requires.2 c.loop-r-test.true c.job_of-job.ensures.value in (able.0, able.1, c.loop-r.invariant.5, c.loop-r.invariant.6)
 
 pub loop-i-init : goal.loop-i-init
-loop-i-init c = let at = at-rule _ _ _ _ _ (c.round.turn % (c.args.sizes.control * c.args.sizes.letters)) c.loop-r.r _ _ c.requires.1 (mod-lt c.round.turn (omega (arith, c.round-test.true))) c.loop-r-test.true c.loop-r.invariant.3 c.job_of-job.ensures.value c.job_of-job.ensures.settled_from refl in (refl, refl, becomes _ _ _ _ _ _ _ _ (starts _ _ _ _ _ _ _ _ _ _ _ _ _) _ (λ g es n h. runs-begin g es n _ _ _ _ _ h _ _ _ _ _ _ _ at _ c.runs_start-i.ensures) _ (λ g es n h e m. m))
+loop-i-init c = let at = at-rule _ _ _ _ _ (c.round.turn % (c.args.sizes.control * c.args.sizes.letters)) c.loop-r.r _ _ c.requires.1 (mod-lt c.round.turn (omega (arith, c.round-test.true))) c.loop-r-test.true c.loop-r.invariant.3 c.job_of-job.ensures.value c.job_of-job.ensures.settled_from refl in (refl, refl, becomes _ _ _ _ _ _ _ _ (starts _ _ _ _ _ _ _ _ _ _ _ _ _) _ (λ g es n h. runs-begin g es n _ _ _ _ _ h _ _ _ _ _ _ _ at _ c.runs_start-start.ensures) _ (λ g es n h e m. m))
 
 pub run_at-count-requires : goal.run_at-count-requires
 run_at-count-requires c = let able = at-able _ _ c.args.work.now _ _ _ _ _ _ c.requires.0 c.requires.2 c.loop-r-test.true c.job_of-job.ensures.value in (able.0, able.1, omega (arith, c.loop-i-test.true, runs-within _ _ _ _ _ _ _ c.runs_end-end.ensures, ap (runs_of c.args.rules.now c.loop-r.r) able.3))
@@ -66,9 +66,6 @@ loop-r-smaller c = let able = at-able _ _ c.args.work.now _ _ _ _ _ _ c.requires
 
 pub loop-r-preserved : goal.loop-r-preserved
 loop-r-preserved c = let next = c.next_rule-r.ensures in let at = at-rule _ _ _ _ _ (c.round.turn % (c.args.sizes.control * c.args.sizes.letters)) c.loop-r.r _ _ c.requires.1 (mod-lt c.round.turn (omega (arith, c.round-test.true))) c.loop-r-test.true c.loop-r.invariant.3 c.job_of-job.ensures.value c.job_of-job.ensures.settled_from refl in let added = runs_done _ _ _ _ _ _ _ _ c.requires.3 _ _ _ _ _ at _ c.loop-i.invariant.2 _ c.runs_end-end.ensures c.loop-i-test.false in (c.loop-i.invariant.0 ∙ c.loop-r.invariant.0, c.loop-i.invariant.1 ∙ c.loop-r.invariant.1, next.within, next.found, becomes _ _ _ _ _ _ _ _ (job-turn _ _ _ _ _ _ _ _ c.requires.3 _ _ _ _ _ at c.loop-r.invariant.4 added) _ (λ g es n h. rules-next g es n _ _ _ _ _ h _ es _ _ _ _ next) _ (λ g es n h. past_next g es n _ _ _ _ _ h _ _ _ _ _ next), c.list_later.ensures.lists_len_unchanged ∙ c.loop-r.invariant.5, c.list_later.ensures.spans_len_unchanged ∙ c.loop-r.invariant.6, (list-turn _ _ _ _ _ _ _ c.args.late c.requires.3 _ _ _ _ _ at c.loop-r.invariant.7 c.list_later.ensures.listed))
-
-pub overflow_add-turn : goal.overflow_add-turn
-overflow_add-turn c = omega (arith, c.round-test.true, few-heads _ c.args.sizes.letters c.requires.0.control (omega arith))
 
 pub round-preserved : goal.round-preserved
 round-preserved c = let added = ends _ _ _ _ _ _ _ _ c.loop-r.invariant.4 (λ g es n h. rules-none g es n _ _ _ _ _ h _ es _ _ _ c.loop-r-test.false) in (c.loop-r.invariant.0 ∙ c.round.invariant.0, c.loop-r.invariant.1 ∙ c.round.invariant.1, head-turn _ _ _ _ _ _ _ _ _ c.round.invariant.2 c.round-test.true added, c.loop-r.invariant.5, c.loop-r.invariant.6, c.loop-r.invariant.7)

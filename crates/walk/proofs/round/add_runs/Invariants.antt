@@ -3,7 +3,7 @@
 -- with an entry of another head give nothing, so that they are taken from the first entry of the head to its last. A loop that ends
 -- has added its list, which is one part of the list around it. Once an entry was beyond the table nothing changes any more, so that
 -- each of the three lists is added where the nest is left. With each list goes what older entries give of it, which is held, so that
--- a job without an entry of the last round is passed over. What is listed is right at any time (`Rightly`). What falls is how many runs, rules and heads are left.
+-- a job without an entry of the last round is passed over. What is listed is right at any time (`Rightly`). What falls is how many rules are left.
 -- Assumes what the contract requires.
 use Prim.Native.Nat.{◌*◌, ◌-◌, ◌<◌, ◌≤◌}
 use mathlib.Core.Path.{◌≡◌}
@@ -18,9 +18,6 @@ use Rattle.walk.proofs.round.add_runs.Given as goal
 abbrev pub invariant-loop-i : goal.invariant-loop-i
 invariant-loop-i l = (length l.table ≡ length l.initial.table) × (length l.memo ≡ length l.initial.memo) × Turning l.sizes l.rules l.places l.fresh l.work l.old l.birthdate l.late (runs_from l.birthdate l.job l.r (runs_of l.rules l.r l.old) 0) (runs_from l.birthdate l.job l.r (runs_of l.rules l.r l.old) l.i) (job_entries l.birthdate l.p l.a l.r) (job_entries l.birthdate l.p l.a l.r) l.initial.table l.initial.count l.initial.memo l.table l.count l.memo
 
-abbrev pub decreases-loop-i : goal.decreases-loop-i
-decreases-loop-i l = l.end - l.i
-
 abbrev pub invariant-loop-r : goal.invariant-loop-r
 invariant-loop-r l = (length l.table ≡ length l.initial.table) × (length l.memo ≡ length l.initial.memo) × (l.r ≤ l.rulecount) × (l.r < l.rulecount → of_head l.p l.a (rule_at l.rules (l.r * 6) 0) ≡ true) × Turning l.sizes l.rules l.places l.fresh l.work l.old l.birthdate l.late (turn_at l.birthdate l.letters l.heads l.turn) (rules_from l.birthdate l.p l.a l.r) (turn_at l.birthdate l.letters l.heads l.turn) (rules_from l.birthdate l.p l.a l.r) l.initial.table l.initial.count l.initial.memo l.table l.count l.memo × (length l.lists ≡ 4096) × (length l.spans ≡ 512) × Rightly l.sizes l.rules l.places l.fresh l.work l.old l.birthdate l.late l.lists l.spans
 
@@ -29,6 +26,3 @@ decreases-loop-r l = l.rulecount - l.r
 
 abbrev pub invariant-round : goal.invariant-round
 invariant-round l = (length l.table ≡ length l.initial.table) × (length l.memo ≡ length l.initial.memo) × Turning l.sizes l.rules l.places l.fresh l.work l.old l.birthdate l.late (turns_from l.birthdate l.letters l.heads 0) (turns_from l.birthdate l.letters l.heads l.turn) (turns_from l.birthdate l.letters l.heads 0) (turns_from l.birthdate l.letters l.heads l.turn) l.initial.table l.initial.count l.initial.memo l.table l.count l.memo × (length l.lists ≡ 4096) × (length l.spans ≡ 512) × Rightly l.sizes l.rules l.places l.fresh l.work l.old l.birthdate l.late l.lists l.spans
-
-abbrev pub decreases-round : goal.decreases-round
-decreases-round l = l.heads * 2 - l.turn
