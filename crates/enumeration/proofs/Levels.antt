@@ -19,7 +19,7 @@ use Rattle.rounds.specs.Growing.{Growing, growing}
 use Rattle.rounds.specs.GrowingLaws.{HeldBy}
 use Rattle.rounds.proofs.GrowingLaws.{growing-append, held-passed, all_stay, grown-held}
 use Rattle.rounds.specs.InsertLaws.{no_entry}
-use Rattle.enumeration.specs.AlikeLaws.{full-any}
+use Rattle.rounds.proofs.Growing.{full-any}
 use Rattle.enumeration.specs.JobLaws.{pass_of, from_place, from_end}
 use Rattle.enumeration.specs.declared.runs.Job.{Job}
 

@@ -1,5 +1,5 @@
 -- The ends that are listed for a rule, taken one after another.
-use Prim.Native.Nat.{ℕ, zero, suc, ◌+◌, ◌-◌, ◌/◌, ◌^◌, ◌<◌, ◌≤◌}
+use Prim.Native.Nat.{ℕ, zero, suc, ◌+◌, ◌-◌, ◌^◌, ◌<◌, ◌≤◌}
 use native.Mathlib.Omega.{arith}
 use mathlib.Core.Path.{◌≡◌, sym, ap, subst, ◌∙◌}
 use mathlib.Core.List.{List, map}
@@ -87,6 +87,6 @@ module _ (lists spans : List ℕ) (r : ℕ) where
       list-ends l =
           all-taken g old birthdate n job rules work (list_of lists spans r) of s (i - start_of spans r) words count memo c (omega (arith, short))
 
-      pub list_over : length words / 3 < count → Leaves s words count memo
+      pub list_over : count ≡ suc n → Leaves s words count memo
       unfolding listed_runs
       list_over over = none-fits g old birthdate n job rules work (list_of lists spans r) of s (i - start_of spans r) words count memo c over

@@ -1,6 +1,6 @@
 -- Elements of a list taken one after another, each giving entries to the table: any elements, and the entries of the old round, from
 -- the place of a head's first one to the place after its last.
-use Rattle.std.specs.Prelude.{ℕ, ◌+◌, ◌/◌, ◌<◌, ◌≤◌, ◌≡◌, false, length, get_or, drop}
+use Rattle.std.specs.Prelude.{ℕ, suc, ◌+◌, ◌<◌, ◌≤◌, ◌≡◌, false, length, get_or, drop}
 use Rattle.std.proofs.Common.{arith, ◌∙◌}
 use Rattle.std.proofs.Math.Path.{ap}
 use mathlib.Core.List.{List, [], map, flat_map}
@@ -15,7 +15,8 @@ use Rattle.rounds.proofs.GrowingLaws.{all_stay}
 use Rattle.rounds.specs.InsertLaws.{no_entry}
 use Rattle.enumeration.specs.Jobs.{Entered, Finished}
 use Rattle.enumeration.specs.JobLaws.{grown-from, from_end}
-use Rattle.enumeration.specs.AlikeLaws.{full-any, over-full}
+use Rattle.rounds.proofs.Growing.{full-any}
+use Rattle.rounds.proofs.StoredRows.{over-full}
 use Rattle.enumeration.specs.HeadPlaces.{before_head, after-head, skip-front, skip-end}
 use Rattle.enumeration.specs.declared.runs.Job.{Job}
 
@@ -56,7 +57,7 @@ module _ (g : PushdownGame) (old : List Entry) (birthdate n : ℕ) (job : Job) (
         let e = c.rest ∙ ap (λ (es : List ℕ). growing n (map given es) c.now) (from_end f i xs l) in
         record { filled = rw e c.entered.filled; memoed = rw e c.entered.memoed }
 
-    pub none-fits : length words / 3 < count → Finished g old birthdate n (map given (flat_map f xs)) s words count memo
+    pub none-fits : count ≡ suc n → Finished g old birthdate n (map given (flat_map f xs)) s words count memo
     none-fits over =
         let e = c.rest ∙ full-any n (map given (flat_map f (drop i xs))) c.now (over-full n words count c.now c.entered.filled over) in
         record { filled = rw e c.entered.filled; memoed = rw e c.entered.memoed }

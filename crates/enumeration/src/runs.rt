@@ -1,6 +1,6 @@
 // The enumeration of runs by functions that call each other: one run for each rule of a job, the runs of a rule by their
 // first transition, one transition for each state left of a set. Each adds the entries of the unions that it ends in.
-ghost use Rattle.std.specs.Prelude.{◌≡◌, ℕ, ◌+◌, ◌*◌, ◌^◌, ◌<◌, ◌≤◌, length};
+ghost use Rattle.std.specs.Prelude.{◌≡◌, ℕ, ◌+◌, ◌*◌, ◌^◌, ◌<◌, ◌≤◌, length, max, unwrap_or, IfSome};
 ghost use mathlib.Core.List.{List, map, flat_map};
 ghost use Rattle.game.specs.Limits.{max_states, max_rules};
 ghost use Rattle.game.specs.Game.{PushdownGame};
@@ -9,6 +9,7 @@ ghost use Rattle.table.specs.Table.{Entry};
 ghost use Rattle.rounds.specs.Rounds.{entry_at};
 ghost use Rattle.rounds.specs.Enumeration.{rest_runs};
 ghost use Rattle.rounds.specs.Growing.{Growing};
+ghost use Rattle.rounds.specs.Filled.{number_of};
 ghost use Rattle.enumeration.specs.Places.{Placing};
 ghost use Rattle.enumeration.specs.Lists.{Listed, start_of, stop_of, listed_runs};
 ghost use Rattle.enumeration.specs.Walk.{Skipped};
@@ -76,7 +77,7 @@ pub fn rules_from(
     from: usize,
     union: u32,
     late: u32,
-) -> usize
+) -> Option<usize>
     requires { Able job (length rules.now) (length work.now) × (from ≤ job.end) }
     ensures finished { (g : PushdownGame) (old : List Entry) (birthdate n : ℕ) (s : Growing)
         → Entered g old birthdate n job rules.now work.now table.old count memo.old s
@@ -86,19 +87,19 @@ pub fn rules_from(
         → Past birthdate n late (map (entry_at job.state job.letter birthdate job.field) (rest_runs g (older birthdate old) (rules_between g job.state job.letter from job.end) union)) s
         → Finished g old birthdate n
         (map (entry_at job.state job.letter birthdate job.field) (rest_runs g old (rules_between g job.state job.letter from job.end) union))
-        s table.new result memo.new }
+        s table.new (number_of n result) memo.new }
+    ensures within { count * 3 ≤ length table.old → IfSome result (λ filled. filled * 3 ≤ length table.old) }
     ensures table_len_unchanged { length table.new ≡ length table.old }
     ensures memo_len_unchanged { length memo.new ≡ length memo.old }
 {
-    let r = next_rule(rules, job.end, from, job.state, job.letter);
-    if job.end <= r {
+    let Some(r) = next_rule(rules, job.end, from, job.state, job.letter) else {
         let entry = EntryWords {
             first: job.first,
             set: union,
             rule: job.field,
         };
         return insert(table, count, entry);
-    }
+    };
     let at = r * Game::RULE_STRIDE;
     if rules[at + 3] == 0 {
         let passed = joined(union, rules[at + 2]);
@@ -116,12 +117,9 @@ pub fn rules_from(
     for i in start_at(places, job.count, rules[at + 2], rules[at + 4])..end {
         filled = runs_with(
             job, rules, places, fresh, work, table, memo, lists, spans, filled, r, i, union, late,
-        );
-        if table.len() / EntryWords::STRIDE < filled {
-            return filled;
-        }
+        )?;
     }
-    filled
+    Some(filled)
 }
 
 // The same from rule r on, which is listed: the ends of its runs one after another. What older entries give is not left out.
@@ -139,7 +137,7 @@ fn rules_by(
     count: usize,
     r: usize,
     union: u32,
-) -> usize
+) -> Option<usize>
     requires { Able job (length rules.now) (length work.now) × (r < job.end) }
     ensures finished { (g : PushdownGame) (old : List Entry) (birthdate n : ℕ) (s : Growing)
         → Entered g old birthdate n job rules.now work.now table.old count memo.old s
@@ -148,7 +146,8 @@ fn rules_by(
         → Whole g job r → start_of spans.now r < stop_of spans.now r (length lists.now)
         → Finished g old birthdate n
         (map (entry_at job.state job.letter birthdate job.field) (listed_runs g old job.state job.letter job.end lists.now spans.now r union))
-        s table.new result memo.new }
+        s table.new (number_of n result) memo.new }
+    ensures within { count * 3 ≤ length table.old → IfSome result (λ filled. filled * 3 ≤ length table.old) }
     ensures table_len_unchanged { length table.new ≡ length table.old }
     ensures memo_len_unchanged { length memo.new ≡ length memo.old }
 {
@@ -169,12 +168,9 @@ fn rules_by(
             r,
             union | lists[i],
             0,
-        );
-        if table.len() / EntryWords::STRIDE < filled {
-            return filled;
-        }
+        )?;
     }
-    filled
+    Some(filled)
 }
 
 // The runs of rule r that begin with entry i of the old round.
@@ -194,7 +190,7 @@ pub fn runs_with(
     i: usize,
     union: u32,
     late: u32,
-) -> usize
+) -> Option<usize>
     requires { Able job (length rules.now) (length work.now) × (r < job.end) × (i < job.count) }
     ensures finished { (g : PushdownGame) (old : List Entry) (birthdate n : ℕ) (s : Growing)
         → Entered g old birthdate n job rules.now work.now table.old count memo.old s
@@ -204,17 +200,18 @@ pub fn runs_with(
         → Past birthdate n late (map (entry_at job.state job.letter birthdate job.field) (flat_map (begin_of g (older birthdate old) job.state job.letter job.end r union) (older birthdate old))) s
         → Finished g old birthdate n
         (map (entry_at job.state job.letter birthdate job.field) (begin_runs g old job.state job.letter job.end r i union))
-        s table.new result memo.new }
+        s table.new (number_of n result) memo.new }
+    ensures within { count * 3 ≤ length table.old → IfSome result (λ filled. filled * 3 ≤ length table.old) }
     ensures table_len_unchanged { length table.new ≡ length table.old }
     ensures memo_len_unchanged { length memo.new ≡ length memo.old }
 {
     let entry = EntryWords::at(work, i);
     let at = r * Game::RULE_STRIDE;
     if entry.state() != rules[at + 2] {
-        return count;
+        return Some(count);
     }
     if entry.letter() != rules[at + 4] {
-        return count;
+        return Some(count);
     }
     let still = still_late(late, entry.first);
     if rules[at + 3] == 1 {
@@ -235,11 +232,11 @@ pub fn runs_with(
         );
     }
     if is_blocked(places, job.count, entry.set, rules[at + 5]) {
-        return count;
+        return Some(count);
     }
     let among = entry.set & fresh_on(fresh, rules[at + 5]);
     if 0 < older_below(job.last, r, among, still) {
-        return count;
+        return Some(count);
     }
     pass_states(
         job, rules, places, fresh, work, table, memo, lists, spans, count, r, entry.set, union,
@@ -264,7 +261,7 @@ pub fn rules_after(
     r: usize,
     union: u32,
     late: u32,
-) -> usize
+) -> Option<usize>
     requires { Able job (length rules.now) (length work.now) × (r < job.end) }
     ensures finished { (g : PushdownGame) (old : List Entry) (birthdate n : ℕ) (s : Growing)
         → Entered g old birthdate n job rules.now work.now table.old count memo.old s
@@ -274,16 +271,17 @@ pub fn rules_after(
         → Past birthdate n late (map (entry_at job.state job.letter birthdate job.field) (sub_runs g (older birthdate old) job.state job.letter job.end r 0 union)) s
         → Finished g old birthdate n
         (map (entry_at job.state job.letter birthdate job.field) (sub_runs g old job.state job.letter job.end r 0 union))
-        s table.new result memo.new }
+        s table.new (number_of n result) memo.new }
+    ensures within { count * 3 ≤ length table.old → IfSome result (λ filled. filled * 3 ≤ length table.old) }
     ensures table_len_unchanged { length table.new ≡ length table.old }
     ensures memo_len_unchanged { length memo.new ≡ length memo.old }
 {
     if 0 < older_below(job.last, r, 0, late) {
-        return count;
+        return Some(count);
     }
     let tag = tag_of(job.state, job.letter, r);
     if is_finished(memo, tag, 0, union) {
-        return count;
+        return Some(count);
     }
     let filled = rules_from(
         job,
@@ -324,7 +322,7 @@ fn pass_states(
     set: u32,
     reached: u32,
     late: u32,
-) -> usize
+) -> Option<usize>
     requires { Able job (length rules.now) (length work.now) × (r < job.end) × (0 < set) }
     ensures finished { (g : PushdownGame) (old : List Entry) (birthdate n : ℕ) (s : Growing)
         → Entered g old birthdate n job rules.now work.now table.old count memo.old s
@@ -334,7 +332,8 @@ fn pass_states(
         → Past birthdate n late (map (entry_at job.state job.letter birthdate job.field) (sub_runs g (older birthdate old) job.state job.letter job.end r set reached)) s
         → Finished g old birthdate n
         (map (entry_at job.state job.letter birthdate job.field) (sub_runs g old job.state job.letter job.end r set reached))
-        s table.new result memo.new }
+        s table.new (number_of n result) memo.new }
+    ensures within { count * 3 ≤ length table.old → IfSome result (λ filled. filled * 3 ≤ length table.old) }
     ensures table_len_unchanged { length table.new ≡ length table.old }
     ensures memo_len_unchanged { length memo.new ≡ length memo.old }
 {
@@ -356,10 +355,9 @@ fn pass_states(
         let rest = left % (1u32 << q);
         let end = end_at(places, job.count, q, below);
         let passing = older_below(job.last, r, rest & new, limit);
-        let found = next_open(work, memo, tag, rest, union, i, end, passing);
-        if end <= found {
+        let Some(found) = next_open(work, memo, tag, rest, union, i, end, passing) else {
             if depth == 0 {
-                return filled;
+                return Some(filled);
             }
             finish(memo, tag, left, union);
             depth -= 1;
@@ -368,17 +366,14 @@ fn pass_states(
             i = nexts[depth];
             limit = limits[depth];
             continue;
-        }
+        };
         let passed = union | work[found * EntryWords::STRIDE + 1];
         let still = still_late(limit, work[found * EntryWords::STRIDE]);
         if rest == 0 {
             filled = rules_after(
                 job, rules, places, fresh, work, table, memo, lists, spans, filled, r, passed,
                 still,
-            );
-            if table.len() / EntryWords::STRIDE < filled {
-                return filled;
-            }
+            )?;
             i = found + 1;
             continue;
         }
@@ -394,7 +389,7 @@ fn pass_states(
     }
 }
 
-// The first place from `from` on, up to `end`, of an entry that is not passed over: its first word is not below `passing`, and the
+// The first place from `from` on, before `end`, of an entry that is not passed over: its first word is not below `passing`, and the
 // memo does not have its set, united with what was passed, with the states `rest` left.
 fn next_open(
     work: &[u32],
@@ -405,21 +400,19 @@ fn next_open(
     from: usize,
     end: usize,
     passing: u32,
-) -> usize
+) -> Option<usize>
     requires { end * 3 ≤ length work.now }
-    ensures { Skipped work.now memo.now tag rest union from end passing result }
+    ensures skipped { Skipped work.now memo.now tag rest union from end passing (unwrap_or result (max from end)) }
+    ensures within { IfSome result (λ i. i < end) }
 {
-    let mut i = from;
-    while i < end {
+    for i in from..end {
         let at = i * EntryWords::STRIDE;
         if work[at] < passing {
-            i += 1;
             continue;
         }
         if !is_finished(memo, tag, rest, union | work[at + 1]) {
-            return i;
+            return Some(i);
         }
-        i += 1;
     }
-    i
+    None
 }

@@ -70,6 +70,12 @@ unfolding growing grow
 full-stays n [] table = refl
 full-stays n (e ∷ es) table = full-stays n es table
 
+pub as-full : (s : Growing) → s.full ≡ true → s ≡ fully s.entries
+as-full s t i = record { entries = s.entries; full = t i }
+
+pub full-any : (n : ℕ) (es : List Entry) (s : Growing) → s.full ≡ true → growing n es s ≡ s
+full-any n es s t = ap (growing n es) (as-full s t) ∙ full-stays n es s.entries ∙ sym (as-full s t)
+
 -- what growing a table of at most n entries by a list ends in
 pub record Grown (n : ℕ) (es table : List Entry) : Type 0 where
   pub fits : length (adding es table) ≤ n → growing n es (partly table) ≡ partly (adding es table)

@@ -52,11 +52,11 @@ fn link_rule(
     let state = number_of(p);
     let letter = number_of(a);
     if control <= state {
-        nexts[r] = next_rule(rules, count, r + 1, p, a);
+        nexts[r] = next_rule(rules, count, r + 1, p, a).unwrap_or(count);
         return;
     }
     if letters <= letter {
-        nexts[r] = next_rule(rules, count, r + 1, p, a);
+        nexts[r] = next_rule(rules, count, r + 1, p, a).unwrap_or(count);
         return;
     }
     let head = state * letters + letter;

@@ -7,11 +7,14 @@ use mathlib.Core.Logic.{◌⊎◌, ⊎_elim}
 use mathlib.Core.Bool.{Bool, true, false, cond}
 use mathlib.Core.List.{List, [], map}
 use lib.ListN.{length, replicate}
-use borrow.Author.Tests.{le-leb, lt-leb}
+use lib.Dec.{eqb}
+use Rattle.std.specs.Prelude.{Option, Some, None}
+use Rattle.std.specs.Option.{option_eq}
+use borrow.Author.Tests.{le-leb, lt-leb, eqb-true, eq-eqb}
 use Rattle.game.specs.Limits.{max_rounds}
 use Rattle.game.specs.Game.{PushdownGame}
 use Rattle.game.specs.GoodGame.{Good}
-use Rattle.game.specs.ListLaws.{below_suc}
+use Rattle.game.specs.ListLaws.{below_suc, clash}
 use Rattle.game.specs.Outcome.{Outcome, done, refused, after}
 use Rattle.table.specs.Table.{Entry}
 use Rattle.table.specs.Pairwise.{Ascending, Pairwise}
@@ -23,7 +26,7 @@ use Rattle.rounds.specs.SolvingLaws.{Unsettled}
 use Rattle.rounds.proofs.Reported.{latest-is}
 use Rattle.rounds.specs.Growing.{growing, partly}
 use Rattle.rounds.proofs.GrownRound.{ended, same-settled, other-unsettled, over, within}
-use Rattle.rounds.specs.Filled.{Stored, Filled}
+use Rattle.rounds.specs.Filled.{Stored, Filled, number_of}
 use Rattle.solver.specs.Leaving.{leaving, called}
 use Rattle.solver.specs.Given.{solving_rounds}
 use Rattle.solver.specs.declared.solving.Solution.{Solution}
@@ -41,6 +44,15 @@ pub refused-left : (question place : ℕ) {table work : List ℕ} (a b : ℕ) �
     → called (Refused question place) table work ≡ leaving (refused question place) a b
 unfolding leaving
 refused-left question place a b e f = rw (e, f)
+
+-- what the code answers of a round, by the number that stands for it: the number of entries as it was, or another
+pub same-number : (n count : ℕ) (result : Option ℕ) → option_eq eqb result (Some count) ≡ true → number_of n result ≡ count
+same-number n count None h = clash h refl
+same-number n count (Some c) h = eqb-true c count h
+
+pub other-number : (n count : ℕ) (result : Option ℕ) → count ≤ n → option_eq eqb result (Some count) ≡ false → number_of n result ≡ count → ⊥
+other-number n count None l h = λ e. omega arith
+other-number n count (Some c) l h = λ e. clash (eq-eqb c count e) h
 
 pub record Taken (g : PushdownGame) (n i : ℕ) (words : List ℕ) (count : ℕ) : Type 0 where
   pub left : ℕ

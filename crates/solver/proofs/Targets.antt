@@ -21,6 +21,8 @@ use Rattle.rounds.specs.Rounds.{target_entry}
 use Rattle.rounds.specs.Growing.{Growing, grow, growing, partly}
 use Rattle.rounds.specs.Filled.{Small, Stored, Filled}
 use Rattle.rounds.proofs.InsertLaws.{get_d-in}
+use Rattle.rounds.proofs.Growing.{full-any}
+use Rattle.rounds.proofs.StoredRows.{over-full}
 use Rattle.solver.specs.Given.{Given}
 
 -- the transitions before place t are added
@@ -111,6 +113,12 @@ module _ (g : PushdownGame) (sizes : Sizes) (rules targets : List ℕ) (given : 
               (a.rest
               ∙ ap (λ (ts : List Transition). growing n (map target_entry ts) a.now) (drop-cons g.targets t no_transition inside));
         }
+
+  -- once the table is full, the transitions left change nothing
+  pub adding-stops : (n t : ℕ) (words : List ℕ) (count : ℕ) → Adding g n t words count → count ≡ suc n
+      → Filled n words count (growing n (map target_entry g.targets) (partly []))
+  adding-stops n t words count a over =
+      rw (a.rest ∙ full-any n (map target_entry (drop t g.targets)) a.now (over-full n words count a.now a.filled over)) a.filled
 
   pub adding-ends : (n t : ℕ) (words : List ℕ) (count : ℕ) → Adding g n t words count → sizes.targetcount ≤ t
       → Filled n words count (growing n (map target_entry g.targets) (partly []))

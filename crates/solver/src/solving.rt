@@ -1,5 +1,5 @@
 // Solving: from a game file to the table of the rounds, in two lent areas.
-ghost use Rattle.std.specs.Prelude.{◌≡◌, [], map, ℕ, ◌+◌, ◌*◌, ◌<◌, ◌≤◌, length, replicate};
+ghost use Rattle.std.specs.Prelude.{◌≡◌, [], map, ℕ, ◌+◌, ◌*◌, ◌<◌, ◌≤◌, length, replicate, IfSome};
 ghost use Rattle.game.specs.Game.{PushdownGame};
 ghost use Rattle.game.specs.GoodGame.{Good};
 ghost use Rattle.game.specs.Held.{Held, Safe};
@@ -8,7 +8,7 @@ ghost use Rattle.game.specs.Stored.{stored};
 ghost use Rattle.rounds.specs.Rounds.{round_zero, target_entry};
 ghost use Rattle.rounds.specs.Solving.{solving_game};
 ghost use Rattle.rounds.specs.Growing.{growing, partly};
-ghost use Rattle.rounds.specs.Filled.{Stored, Filled};
+ghost use Rattle.rounds.specs.Filled.{Stored, Filled, number_of};
 ghost use Rattle.solver.specs.Leaving.{leaving, called, solve_call};
 ghost use Rattle.solver.specs.Given.{Given, solving_rounds, refused_as};
 
@@ -100,19 +100,19 @@ pub fn walk_rounds(
         → table.old ≡ replicate (n * 3) 0
         → called result table.new work.new ≡ leaving (solving_game g n) (length table.old) (length work.old) }
 {
-    let first = round_zero(sizes, rules, targets, table);
-    if table.len() / EntryWords::STRIDE < first {
+    let Some(first) = round_zero(sizes, rules, targets, table) else {
         return give_up(table, work, 11, 0);
-    }
+    };
     rounds_from(sizes, rules, table, work, first)
 }
 
-// Round 0: the target's transitions, birthdate 0.
-fn round_zero(sizes: Sizes, rules: &[u8], targets: &[u32], table: &mut [u32]) -> usize
+// Round 0: the target's transitions, birthdate 0. None, where they are beyond the table.
+fn round_zero(sizes: Sizes, rules: &[u8], targets: &[u32], table: &mut [u32]) -> Option<usize>
     requires { (g : PushdownGame) × Given g sizes rules.now targets.now }
     ensures filled { (g : PushdownGame) (n : ℕ) → Given g sizes rules.now targets.now
         → table.old ≡ replicate (n * 3) 0
-        → Filled n table.new result (growing n (map target_entry g.targets) (partly [])) }
+        → Filled n table.new (number_of n result) (growing n (map target_entry g.targets) (partly [])) }
+    ensures within { IfSome result (λ count. count * 3 ≤ length table.old) }
     ensures table_len_unchanged { length table.new ≡ length table.old }
 {
     let mut count = 0;
@@ -123,9 +123,9 @@ fn round_zero(sizes: Sizes, rules: &[u8], targets: &[u32], table: &mut [u32]) ->
             set: targets[at + 2],
             rule: 0,
         };
-        count = insert(table, count, entry);
+        count = insert(table, count, entry)?;
     }
-    count
+    Some(count)
 }
 
 // The rounds after round 0, taken in order until settled. The work area holds the old round.
@@ -145,7 +145,7 @@ fn rounds_from(
     loop {
         work.copy_from_slice(table);
         let next = take_wide(sizes, rules, work, table, count, i + 1);
-        if next == count {
+        if next == Some(count) {
             work.fill(0);
             return Solution::Solved {
                 entries: count,
@@ -155,10 +155,10 @@ fn rounds_from(
         if Game::MAX_ROUNDS <= i {
             return give_up(table, work, 12, i as usize + 1);
         }
-        if table.len() / EntryWords::STRIDE < next {
+        let Some(entries) = next else {
             return give_up(table, work, 11, i as usize + 1);
-        }
-        count = next;
+        };
+        count = entries;
         i += 1;
     }
 }

@@ -9,7 +9,9 @@ use lib.ListN.{length, get_or, set, replicate, length-set}
 use lib.Seq.{get_or-set_same, get_or-set_other}
 use lib.Dec.{eqb}
 use borrow.Author.Tests.{eqb-true, eqb-false}
-use Rattle.game.specs.Game.{PushdownGame}
+use Rattle.std.specs.Prelude.{Option, Some, None, unwrap_or, IfSome}
+use Rattle.game.specs.Game.{PushdownGame, of_head}
+use Rattle.game.specs.Stored.{rule_at}
 use Rattle.game.specs.StoredLaws.{no_rule}
 use Rattle.game.specs.ListLaws.{◌∈◌, test}
 use Rattle.table.specs.Table.{Entry}
@@ -173,3 +175,10 @@ zero-at (suc n) (suc j) = zero-at n j
 
 pub zeroed : (words : List ℕ) (n : ℕ) → words ≡ replicate n 0 → Zero words
 zeroed words n e = subst Zero (sym e) (zero-at n)
+
+-- the next rule of a head, where there is one, is a rule of it before the end
+pub next-some : (rules : List ℕ) (end p a : ℕ) (next : Option ℕ)
+    → (unwrap_or next end < end → of_head p a (rule_at rules (unwrap_or next end * 6) 0) ≡ true) → IfSome next (λ r. r < end)
+    → IfSome next (λ r. (r < end) × (of_head p a (rule_at rules (r * 6) 0) ≡ true))
+next-some rules end p a None found within = tt
+next-some rules end p a (Some r) found within = (within, found within)

@@ -20,7 +20,8 @@ use Rattle.rounds.specs.RoundLaws.{AllRanged}
 use Rattle.rounds.specs.Enumeration.{rest_runs}
 use Rattle.rounds.specs.Growing.{Growing, growing, partly}
 use Rattle.rounds.specs.GrowingLaws.{HeldBy}
-use Rattle.rounds.specs.Filled.{Stored, Filled}
+use Rattle.rounds.specs.Filled.{Stored, Filled, number_of}
+use Rattle.std.specs.Prelude.{Option, Some}
 use Rattle.rounds.specs.Scans.{rules_between}
 use Rattle.rounds.proofs.StoredRows.{entry-at}
 use Rattle.rounds.specs.InsertLaws.{no_entry}
@@ -52,15 +53,15 @@ module _ (sizes : Sizes) (rules places fresh work : List ℕ) (old birthdate lat
         (right g es n h marked)
 
     -- what a run promises
-    abbrev pub RunAdds : List ℕ → List ℕ → ℕ → List ℕ → ℕ → List ℕ → List ℕ → ℕ → List ℕ → Type 0
+    abbrev pub RunAdds : List ℕ → List ℕ → ℕ → List ℕ → ℕ → List ℕ → List ℕ → Option ℕ → List ℕ → Type 0
     RunAdds lists spans i words count memo words' count' memo' =
         (g : PushdownGame) (es : List Entry) (b n : ℕ) (s : Growing) → Entered g es b n job rules work words count memo s
         → Placing g work job.count places → Aging g es b job fresh → Listed g es lists spans → Whole g job r
         → Past b n late
         (map (entry_at job.state job.letter b job.field) (rest_runs g (older b es) (rules_between g job.state job.letter r job.end) 0)) s
-        → Finished g es b n (run_at b job r i g es) s words' count' memo'
+        → Finished g es b n (run_at b job r i g es) s words' (number_of n count') memo'
 
-    run-adds : (lists spans : List ℕ) → Rightly sizes rules places fresh work old birthdate late lists spans → (i : ℕ) {words : List ℕ} {count : ℕ} {memo words' : List ℕ} {count' : ℕ} {memo' : List ℕ}
+    run-adds : (lists spans : List ℕ) → Rightly sizes rules places fresh work old birthdate late lists spans → (i : ℕ) {words : List ℕ} {count : ℕ} {memo words' : List ℕ} {count' : Option ℕ} {memo' : List ℕ}
         → RunAdds lists spans i words count memo words' count' memo'
         → Adds sizes rules places fresh work old birthdate late (run_at birthdate job r i) (job_entries birthdate p a r) words count memo words' count' memo'
     run-adds lists spans right i promise =
@@ -77,8 +78,8 @@ module _ (sizes : Sizes) (rules places fresh work : List ℕ) (old birthdate lat
         }
 
     -- one run more
-    pub run-turn : (lists spans : List ℕ) → Rightly sizes rules places fresh work old birthdate late lists spans → (i : ℕ) {words₀ : List ℕ} {count₀ : ℕ} {memo₀ words : List ℕ} {count : ℕ} {memo words' : List ℕ} {count' : ℕ} {memo' : List ℕ}
-        → Turning sizes rules places fresh work old birthdate late (runs_from birthdate job r runs 0) (runs_from birthdate job r runs i) (job_entries birthdate p a r) (job_entries birthdate p a r) words₀ count₀ memo₀ words count memo
+    pub run-turn : (lists spans : List ℕ) → Rightly sizes rules places fresh work old birthdate late lists spans → (i : ℕ) {words₀ : List ℕ} {count₀ : ℕ} {memo₀ words : List ℕ} {count : ℕ} {memo words' : List ℕ} {count' : Option ℕ} {memo' : List ℕ}
+        → Turning sizes rules places fresh work old birthdate late (runs_from birthdate job r runs 0) (runs_from birthdate job r runs i) (job_entries birthdate p a r) (job_entries birthdate p a r) words₀ count₀ memo₀ words (Some count) memo
         → i < runs → RunAdds lists spans i words count memo words' count' memo'
         → Turning sizes rules places fresh work old birthdate late (runs_from birthdate job r runs 0) (runs_from birthdate job r runs (i + 1)) (job_entries birthdate p a r) (job_entries birthdate p a r) words₀ count₀ memo₀ words' count' memo'
     run-turn lists spans right i t l promise =
@@ -89,9 +90,9 @@ module _ (sizes : Sizes) (rules places fresh work : List ℕ) (old birthdate lat
 
     -- no run more, by where they end
     pub runs_done : (i : ℕ) {words₀ : List ℕ} {count₀ : ℕ} {memo₀ words : List ℕ} {count : ℕ} {memo : List ℕ}
-        → Turning sizes rules places fresh work old birthdate late (runs_from birthdate job r runs 0) (runs_from birthdate job r runs i) (job_entries birthdate p a r) (job_entries birthdate p a r) words₀ count₀ memo₀ words count memo
+        → Turning sizes rules places fresh work old birthdate late (runs_from birthdate job r runs 0) (runs_from birthdate job r runs i) (job_entries birthdate p a r) (job_entries birthdate p a r) words₀ count₀ memo₀ words (Some count) memo
         → (end : ℕ) → ((0 < late) × (job.last ≤ r) × (end ≡ 0)) ⊎ RunsEnd rules places r old end → end ≤ i
-        → Adds sizes rules places fresh work old birthdate late (runs_from birthdate job r runs 0) (job_entries birthdate p a r) words₀ count₀ memo₀ words count memo
+        → Adds sizes rules places fresh work old birthdate late (runs_from birthdate job r runs 0) (job_entries birthdate p a r) words₀ count₀ memo₀ words (Some count) memo
     runs_done i t end o l =
         ⊎_elim
         (λ (none : (0 < late) × (job.last ≤ r) × (end ≡ 0)).
@@ -105,8 +106,8 @@ module _ (sizes : Sizes) (rules places fresh work : List ℕ) (old birthdate lat
         o
 
     -- one job more
-    pub job-turn : {whole kept : Entries} {words₀ : List ℕ} {count₀ : ℕ} {memo₀ words : List ℕ} {count : ℕ} {memo words' : List ℕ} {count' : ℕ} {memo' : List ℕ}
-        → Turning sizes rules places fresh work old birthdate late whole (rules_from birthdate p a r) kept (rules_from birthdate p a r) words₀ count₀ memo₀ words count memo
+    pub job-turn : {whole kept : Entries} {words₀ : List ℕ} {count₀ : ℕ} {memo₀ words : List ℕ} {count : ℕ} {memo words' : List ℕ} {count' : Option ℕ} {memo' : List ℕ}
+        → Turning sizes rules places fresh work old birthdate late whole (rules_from birthdate p a r) kept (rules_from birthdate p a r) words₀ count₀ memo₀ words (Some count) memo
         → Adds sizes rules places fresh work old birthdate late (runs_from birthdate job r runs 0) (job_entries birthdate p a r) words count memo words' count' memo'
         → Turning sizes rules places fresh work old birthdate late whole (rules_from birthdate p a job.end) kept (rules_from birthdate p a job.end) words₀ count₀ memo₀ words' count' memo'
     job-turn t d =
@@ -132,8 +133,8 @@ module _ (sizes : Sizes) (rules places fresh work : List ℕ) (old birthdate lat
   turn_of turn = turn_at birthdate sizes.letters heads turn
 
   -- one turn more
-  pub head-turn : (turn : ℕ) {words₀ : List ℕ} {count₀ : ℕ} {memo₀ words : List ℕ} {count : ℕ} {memo words' : List ℕ} {count' : ℕ} {memo' : List ℕ}
-      → Turning sizes rules places fresh work old birthdate late (turns_of 0) (turns_of turn) (turns_of 0) (turns_of turn) words₀ count₀ memo₀ words count memo → turn < heads * 2
+  pub head-turn : (turn : ℕ) {words₀ : List ℕ} {count₀ : ℕ} {memo₀ words : List ℕ} {count : ℕ} {memo words' : List ℕ} {count' : Option ℕ} {memo' : List ℕ}
+      → Turning sizes rules places fresh work old birthdate late (turns_of 0) (turns_of turn) (turns_of 0) (turns_of turn) words₀ count₀ memo₀ words (Some count) memo → turn < heads * 2
       → Adds sizes rules places fresh work old birthdate late (turn_of turn) (turn_of turn) words count memo words' count' memo'
       → Turning sizes rules places fresh work old birthdate late (turns_of 0) (turns_of (turn + 1)) (turns_of 0) (turns_of (turn + 1)) words₀ count₀ memo₀ words' count' memo'
   head-turn turn t l d =
@@ -152,12 +153,12 @@ module _ (sizes : Sizes) (rules places fresh work : List ℕ) (old birthdate lat
       split g es n h table = turns-split g es n sizes rules places work old h birthdate sizes.letters heads turn refl refl table l
 
   -- the whole round
-  pub round_filled : {words : List ℕ} {memo words' : List ℕ} {count' : ℕ} {memo' : List ℕ}
+  pub round_filled : {words : List ℕ} {memo words' : List ℕ} {count' : Option ℕ} {memo' : List ℕ}
       → Adds sizes rules places fresh work old birthdate late (turns_of 0) (turns_of 0) words old memo words' count' memo'
       → (g : PushdownGame) (es : List Entry) (n : ℕ) → Held g sizes rules → Good g → AllRanged g es → Stored n work old es
       → Stored n words old es → (1 < birthdate → HeldBy n (candidates g (older birthdate es) birthdate) (partly es))
       → late ≡ late_of birthdate → Marked work fresh late old → Placing g work old places → Blank memo
-      → Filled n words' count' (growing n (candidates g es birthdate) (partly es))
+      → Filled n words' (number_of n count') (growing n (candidates g es birthdate) (partly es))
   round_filled {words} {memo} d g es n held good ranged stored table past is marked placing blank =
       let h : Setting g es n sizes rules places work old = record { held = held; good = good; ranged = ranged; stored = stored; placing = placing } in
       let known : Known es birthdate n fresh late (turns_of 0 g (older birthdate es)) (partly es) =

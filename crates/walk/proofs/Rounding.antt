@@ -1,10 +1,10 @@
 -- The turns of a round. Each of its loops adds a list of its own, part by part: the runs of a job, the jobs of a head, the turns of heads.
-use Prim.Native.Nat.{ℕ, ◌*◌, ◌/◌, ◌<◌}
+use Prim.Native.Nat.{ℕ, ◌*◌, ◌<◌}
 use mathlib.Core.Path.{◌≡◌, refl, ap, ◌∙◌}
 use mathlib.Core.Logic.{◌⊎◌}
 use mathlib.Core.Bool.{true}
 use mathlib.Core.List.{List, [], ◌++◌, map, flat_map}
-use lib.ListN.{length, get_or, drop}
+use lib.ListN.{get_or, drop}
 use Rattle.game.specs.Sets.{has}
 use Rattle.game.specs.ListLaws.{◌∈◌}
 use Rattle.game.specs.Game.{PushdownGame}
@@ -16,8 +16,10 @@ use Rattle.rounds.specs.Rounds.{below, entry_at}
 use Rattle.rounds.specs.RoundLaws.{AllRanged}
 use Rattle.rounds.specs.Growing.{Growing, growing}
 use Rattle.rounds.proofs.GrowingLaws.{growing-append, held-passed}
-use Rattle.rounds.specs.Filled.{Stored, Filled}
-use Rattle.enumeration.specs.AlikeLaws.{full-any, over-full}
+use Rattle.rounds.specs.Filled.{Stored, Filled, number_of}
+use Rattle.std.specs.Prelude.{Option, Some, None}
+use Rattle.rounds.proofs.Growing.{full-any}
+use Rattle.rounds.proofs.StoredRows.{over-full}
 use Rattle.enumeration.specs.Places.{Placing}
 use Rattle.enumeration.specs.Past.{older, Past}
 use Rattle.enumeration.specs.PastLaws.{past-stays}
@@ -91,16 +93,16 @@ module _ (sizes : Sizes) (rules places fresh work : List ℕ) (old birthdate lat
       → Listed g es lists spans
 
   -- From one table and memo to another a list is added, whatever game they stand for.
-  pub record Adds (list kept : Entries) (words : List ℕ) (count : ℕ) (memo words' : List ℕ) (count' : ℕ) (memo' : List ℕ) : Type 0 where
+  pub record Adds (list kept : Entries) (words : List ℕ) (count : ℕ) (memo words' : List ℕ) (count' : Option ℕ) (memo' : List ℕ) : Type 0 where
     pub adds : (g : PushdownGame) (es : List Entry) (n : ℕ) (s : Growing) → In g es n
         → Filled n words count s → Memoed g es birthdate n memo s → Knows kept g es n s
-        → Finished g es birthdate n (list g es) s words' count' memo'
+        → Finished g es birthdate n (list g es) s words' (number_of n count') memo'
 
   -- And of a list `rest` is still to come, with what is kept of the past for it.
-  pub record Turning (whole rest kept kept' : Entries) (words : List ℕ) (count : ℕ) (memo words' : List ℕ) (count' : ℕ) (memo' : List ℕ) : Type 0 where
+  pub record Turning (whole rest kept kept' : Entries) (words : List ℕ) (count : ℕ) (memo words' : List ℕ) (count' : Option ℕ) (memo' : List ℕ) : Type 0 where
     pub turns : (g : PushdownGame) (es : List Entry) (n : ℕ) (s : Growing) → In g es n
         → Filled n words count s → Memoed g es birthdate n memo s → Knows kept g es n s
-        → (c : Going g es birthdate n (whole g es) s (rest g es) words' count' memo') × Knows kept' g es n c.now
+        → (c : Going g es birthdate n (whole g es) s (rest g es) words' (number_of n count') memo') × Knows kept' g es n c.now
 
   -- of the past less is kept
   abbrev pub Within : Entries → Entries → Type 0
@@ -111,11 +113,41 @@ module _ (sizes : Sizes) (rules places fresh work : List ℕ) (old birthdate lat
   knows-less small large inside g es n s h k =
       record { marked = k.marked; past = λ some. ((k.past some).0, λ e m. (k.past some).1 e (inside g es n h e m)) }
 
-  pub starts : (list kept : Entries) (words : List ℕ) (count : ℕ) (memo : List ℕ) → Turning list list kept kept words count memo words count memo
+  pub starts : (list kept : Entries) (words : List ℕ) (count : ℕ) (memo : List ℕ) → Turning list list kept kept words count memo words (Some count) memo
   starts list kept words count memo =
       record { turns = λ g es n s h f m k. (record { now = s; same = refl; filled = f; memoed = m }, k) }
 
-  module _ {whole rest kept kept' : Entries} {words : List ℕ} {count : ℕ} {memo words' : List ℕ} {count' : ℕ} {memo' : List ℕ} (t : Turning whole rest kept kept' words count memo words' count' memo') where
+  -- a part of what is to come is added
+  pub goes_on : {whole rest kept kept' : Entries} {words : List ℕ} {count : ℕ} {memo words' : List ℕ} {count' : ℕ} {memo' : List ℕ}
+      → Turning whole rest kept kept' words count memo words' (Some count') memo' → (part rest' : Entries)
+      → ((g : PushdownGame) (es : List Entry) (n : ℕ) → In g es n → rest g es ≡ part g es ++ rest' g es)
+      → (less kept'' : Entries) → Within less kept' → Within kept'' kept'
+      → {words'' : List ℕ} {count'' : Option ℕ} {memo'' : List ℕ} → Adds part less words' count' memo' words'' count'' memo''
+      → Turning whole rest' kept kept'' words count memo words'' count'' memo''
+  goes_on {kept'} t part rest' split less kept'' inside inside'' d =
+      record {
+        turns =
+            λ g es n s h f m k.
+            let r = t.turns g es n s h f m k in
+            let c = r.0 in
+            let e = d.adds g es n c.now h c.filled c.memoed (knows-less less kept' inside g es n c.now h r.1) in
+            let after = knows-less kept'' kept' inside'' g es n c.now h r.1 in (
+              record {
+                now = growing n (part g es) c.now;
+                same =
+                    c.same ∙ ap (λ (l : List Entry). growing n l c.now) (split g es n h)
+                    ∙ growing-append n (part g es) (rest' g es) c.now;
+                filled = e.filled;
+                memoed = e.memoed;
+              },
+              record {
+                marked = after.marked;
+                past = past-stays birthdate n late (kept'' g (older birthdate es)) (part g es) c.now after.past;
+              },
+            );
+      }
+
+  module _ {whole rest kept kept' : Entries} {words : List ℕ} {count : ℕ} {memo words' : List ℕ} {count' : Option ℕ} {memo' : List ℕ} (t : Turning whole rest kept kept' words count memo words' count' memo') where
     -- what is to come in other words
     pub becomes : (rest' : Entries) → ((g : PushdownGame) (es : List Entry) (n : ℕ) → In g es n → rest g es ≡ rest' g es)
         → (kept'' : Entries) → Within kept'' kept'
@@ -136,37 +168,8 @@ module _ (sizes : Sizes) (rules places fresh work : List ℕ) (old birthdate lat
               );
         }
 
-    -- a part of what is to come is added
-    pub goes_on : (part rest' : Entries)
-        → ((g : PushdownGame) (es : List Entry) (n : ℕ) → In g es n → rest g es ≡ part g es ++ rest' g es)
-        → (less kept'' : Entries) → Within less kept' → Within kept'' kept'
-        → {words'' : List ℕ} {count'' : ℕ} {memo'' : List ℕ} → Adds part less words' count' memo' words'' count'' memo''
-        → Turning whole rest' kept kept'' words count memo words'' count'' memo''
-    goes_on part rest' split less kept'' inside inside'' d =
-        record {
-          turns =
-              λ g es n s h f m k.
-              let r = t.turns g es n s h f m k in
-              let c = r.0 in
-              let e = d.adds g es n c.now h c.filled c.memoed (knows-less less kept' inside g es n c.now h r.1) in
-              let after = knows-less kept'' kept' inside'' g es n c.now h r.1 in (
-                record {
-                  now = growing n (part g es) c.now;
-                  same =
-                      c.same ∙ ap (λ (l : List Entry). growing n l c.now) (split g es n h)
-                      ∙ growing-append n (part g es) (rest' g es) c.now;
-                  filled = e.filled;
-                  memoed = e.memoed;
-                },
-                record {
-                  marked = after.marked;
-                  past = past-stays birthdate n late (kept'' g (older birthdate es)) (part g es) c.now after.past;
-                },
-              );
-        }
-
     -- what is to come changes nothing
-    no_more : ((g : PushdownGame) (es : List Entry) (n : ℕ) (now : Growing) → In g es n → Filled n words' count' now → Knows kept' g es n now
+    no_more : ((g : PushdownGame) (es : List Entry) (n : ℕ) (now : Growing) → In g es n → Filled n words' (number_of n count') now → Knows kept' g es n now
         → growing n (rest g es) now ≡ now)
         → Adds whole kept words count memo words' count' memo'
     no_more same =
@@ -196,5 +199,5 @@ module _ (sizes : Sizes) (rules places fresh work : List ℕ) (old birthdate lat
         (λ g es n now h f k. held-passed n (rest g es) now (λ e m. (k.past some).1 e (inside g es n h k.marked e m)))
 
     -- since the table is full
-    pub stops : length words' / 3 < count' → Adds whole kept words count memo words' count' memo'
-    stops l = no_more (λ g es n now h f k. full-any n (rest g es) now (over-full n words' count' now f l))
+    pub stops : count' ≡ None → Adds whole kept words count memo words' count' memo'
+    stops l = no_more (λ g es n now h f k. full-any n (rest g es) now (over-full n words' (number_of n count') now f (ap (number_of n) l)))

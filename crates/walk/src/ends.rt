@@ -1,13 +1,13 @@
 // The ends of the later rules of Abelard's head, found before its runs are taken and kept as lists: once for each rule, and not anew
 // for each union of ends of the rules before it. A rule with too many ends is not listed.
-ghost use Rattle.std.specs.Prelude.{◌≡◌, true, List, [], map, ℕ, ◌+◌, ◌*◌, ◌<◌, ◌≤◌, length, get_or};
+ghost use Rattle.std.specs.Prelude.{◌≡◌, true, List, [], map, ℕ, ◌+◌, ◌*◌, ◌<◌, ◌≤◌, length, get_or, IfSome};
 ghost use Rattle.game.specs.Game.{PushdownGame, of_head};
 ghost use Rattle.game.specs.Stored.{rule_at};
 ghost use Rattle.game.specs.StoredLaws.{no_rule};
 ghost use Rattle.table.specs.Table.{Entry};
 ghost use Rattle.rounds.specs.Rounds.{entry_at, rule_ends};
 ghost use Rattle.rounds.specs.Growing.{growing, partly};
-ghost use Rattle.rounds.specs.Filled.{Stored, Filled};
+ghost use Rattle.rounds.specs.Filled.{Stored, Filled, number_of};
 ghost use Rattle.enumeration.specs.Past.{Aging};
 ghost use Rattle.enumeration.specs.Jobs.{Able, Stands};
 ghost use Rattle.enumeration.specs.Lists.{Listed, Zero, Bounded};
@@ -75,12 +75,12 @@ fn list_rules(
     let mut sets = [0u32; ENDS * EntryWords::STRIDE];
     let mut memo = [0u32; MARKS * LINE];
     let mut room = 0;
-    let mut r = next_rule(rules, job.end, first + 1, job.state, job.letter);
-    while r < job.end {
+    let mut next = next_rule(rules, job.end, first + 1, job.state, job.letter);
+    while let Some(r) = next {
         room = list_rule(
             job, rules, places, fresh, work, &mut sets, &mut memo, lists, spans, r, room,
         );
-        r = next_rule(rules, job.end, r + 1, job.state, job.letter);
+        next = next_rule(rules, job.end, r + 1, job.state, job.letter);
     }
 }
 
@@ -113,18 +113,18 @@ fn list_rule(
     if rules[r * Game::RULE_STRIDE + 3] != 2 {
         return room;
     }
-    let count = find_ends(job, rules, places, fresh, work, sets, memo, r);
+    let found = find_ends(job, rules, places, fresh, work, sets, memo, r);
     memo.fill(0);
-    if ENDS < count {
+    let Some(count) = found else {
         sets.fill(0);
         return room;
-    }
+    };
     let after = keep_list(lists, spans, sets, count, r, room);
     sets.fill(0);
     after
 }
 
-// The ends of the runs of rule r as entries of an area that has none: how many, or one more than it can hold.
+// The ends of the runs of rule r as entries of an area that has none: how many; none, where there are more than it can hold.
 fn find_ends(
     job: Job,
     rules: &[u8],
@@ -134,13 +134,14 @@ fn find_ends(
     sets: &mut [u32],
     memo: &mut [u32],
     r: usize,
-) -> usize
+) -> Option<usize>
     requires { Able job (length rules.now) (length work.now) × (r < job.end) }
     ensures filled { (g : PushdownGame) (old : List Entry) (birthdate m : ℕ) → Stands g old birthdate job rules.now work.now
         → Placing g work.now job.count places.now → Aging g old birthdate job fresh.now
         → of_head job.state job.letter (rule_at rules.now (r * 6) 0) ≡ true → get_or rules.now (r * 6 + 3) 0 ≡ 2
         → Stored m sets.old 0 [] → Blank memo.old
-        → Filled m sets.new result (growing m (map (entry_at job.state job.letter birthdate (r + 1)) (rule_ends g old (get_or g.rules r no_rule))) (partly [])) }
+        → Filled m sets.new (number_of m result) (growing m (map (entry_at job.state job.letter birthdate (r + 1)) (rule_ends g old (get_or g.rules r no_rule))) (partly [])) }
+    ensures within { IfSome result (λ count. count * 3 ≤ length sets.old) }
     ensures sets_len_unchanged { length sets.new ≡ length sets.old }
     ensures memo_len_unchanged { length memo.new ≡ length memo.old }
 {
@@ -153,12 +154,9 @@ fn find_ends(
     for i in start_at(places, alone.count, rules[at + 2], rules[at + 4])..end {
         count = runs_with(
             alone, rules, places, fresh, work, sets, memo, &none, &unlisted, count, r, i, 0, 0,
-        );
-        if sets.len() / EntryWords::STRIDE < count {
-            return count;
-        }
+        )?;
     }
-    count
+    Some(count)
 }
 
 // The job of rule r by itself.

@@ -1,5 +1,5 @@
 // A round: what the runs of the old round give, head by head, rule by rule and run by run.
-ghost use Rattle.std.specs.Prelude.{◌≡◌, ◌⊎◌, true, List, map, ℕ, ◌+◌, ◌*◌, ◌<◌, ◌≤◌, length};
+ghost use Rattle.std.specs.Prelude.{◌≡◌, ◌⊎◌, true, List, map, ℕ, ◌+◌, ◌*◌, ◌<◌, ◌≤◌, length, unwrap_or, IfSome};
 ghost use Rattle.game.specs.Limits.{max_rules};
 ghost use Rattle.game.specs.Sets.{has};
 ghost use Rattle.game.specs.Game.{PushdownGame};
@@ -13,7 +13,7 @@ ghost use Rattle.rounds.specs.Enumeration.{rest_runs};
 ghost use Rattle.rounds.specs.Scans.{rules_between};
 ghost use Rattle.enumeration.specs.Past.{late_of, older, Past, Aging, Marked, SettledFrom};
 ghost use Rattle.rounds.specs.Growing.{Growing, growing, partly};
-ghost use Rattle.rounds.specs.Filled.{Stored, Filled};
+ghost use Rattle.rounds.specs.Filled.{Stored, Filled, number_of};
 ghost use Rattle.enumeration.specs.Jobs.{Able, Whole, Entered, Finished};
 ghost use Rattle.enumeration.specs.Lists.{Listed, Zero};
 ghost use Rattle.enumeration.specs.Places.{Placing};
@@ -29,8 +29,8 @@ use game::{Game, Sizes, has_state};
 use rounds::next_rule;
 use table::EntryWords;
 
-// The next round, added to a table that holds the old one as `work` does: the number of entries afterwards, or one more than
-// the table can hold. What the entries older than the last round give must be held already, where there was one. The memo is the
+// The next round, added to a table that holds the old one as `work` does: the number of entries afterwards; none, where an entry was
+// beyond the table. What the entries older than the last round give must be held already, where there was one. The memo is the
 // round's own.
 pub fn take_wide(
     sizes: Sizes,
@@ -39,12 +39,13 @@ pub fn take_wide(
     table: &mut [u32],
     old: usize,
     birthdate: u32,
-) -> usize
+) -> Option<usize>
     requires { Safe sizes rules.now × (0 < sizes.letters) × (old * 3 ≤ length work.now) × (birthdate < 65536) }
     ensures filled { (g : PushdownGame) (es : List Entry) (n : ℕ) → Held g sizes rules.now → Good g → AllRanged g es
         → Stored n work.now old es → Stored n table.old old es
         → (1 < birthdate → HeldBy n (candidates g (older birthdate es) birthdate) (partly es))
-        → Filled n table.new result (growing n (candidates g es birthdate) (partly es)) }
+        → Filled n table.new (number_of n result) (growing n (candidates g es birthdate) (partly es)) }
+    ensures within { old * 3 ≤ length table.old → IfSome result (λ count. count * 3 ≤ length table.old) }
     ensures table_len_unchanged { length table.new ≡ length table.old }
 {
     let mut places = [0usize; PLACES];
@@ -77,26 +78,26 @@ fn add_runs(
     old: usize,
     birthdate: u32,
     late: u32,
-) -> usize
+) -> Option<usize>
     requires { Safe sizes rules.now × (0 < sizes.letters) × (old * 3 ≤ length work.now) × (birthdate < 65536)
         × (length lists.old ≡ 4096) × (length spans.old ≡ 512) × Zero spans.old }
     ensures filled { (g : PushdownGame) (es : List Entry) (n : ℕ) → Held g sizes rules.now → Good g → AllRanged g es
         → Stored n work.now old es → Stored n table.old old es → (1 < birthdate → HeldBy n (candidates g (older birthdate es) birthdate) (partly es))
         → late ≡ late_of birthdate → Marked work.now fresh.now late old → Placing g work.now old places.now → Blank memo.old
-        → Filled n table.new result (growing n (candidates g es birthdate) (partly es)) }
+        → Filled n table.new (number_of n result) (growing n (candidates g es birthdate) (partly es)) }
+    ensures within { old * 3 ≤ length table.old → IfSome result (λ count. count * 3 ≤ length table.old) }
     ensures table_len_unchanged { length table.new ≡ length table.old }
 {
-    let size = table.len() / EntryWords::STRIDE;
     let letters = sizes.letters as usize;
     let heads = (sizes.control as usize) * letters;
     let rulecount = sizes.rulecount;
     let mut count = old;
-    'round: for turn in 0..heads * 2 {
+    for turn in 0..heads * 2 {
         let head = turn % heads;
         let p = (head / letters) as u8;
         let a = (head % letters) as u8;
-        let mut r = first_rule(sizes, rules, p, a, heads <= turn);
-        while r < rulecount {
+        let mut next = first_rule(sizes, rules, p, a, heads <= turn);
+        while let Some(r) = next {
             let job = job_of(sizes, rules, fresh, p, a, birthdate, r, old);
             let end = runs_end(rules, places, r, old, job.last, late);
             let start = runs_start(rules, places, r, old);
@@ -104,35 +105,24 @@ fn add_runs(
             for i in start..end {
                 count = run_at(
                     job, rules, places, fresh, work, table, memo, lists, spans, count, r, i, late,
-                );
-                if size < count {
-                    break 'round;
-                }
+                )?;
             }
-            r = next_rule(rules, rulecount, job.end, p, a);
+            next = next_rule(rules, rulecount, job.end, p, a);
         }
     }
-    count
+    Some(count)
 }
 
-// The first rule of a head in one of its two turns, the later one for Abelard's heads: `rulecount` where the turn is not its own.
-fn first_rule(sizes: Sizes, rules: &[u8], p: u8, a: u8, later: bool) -> usize
+// The first rule of a head in one of its two turns, the later one for Abelard's heads: none where the turn is not its own.
+fn first_rule(sizes: Sizes, rules: &[u8], p: u8, a: u8, later: bool) -> Option<usize>
     requires { (sizes.rulecount * 6 ≤ length rules.now) × (sizes.rulecount ≤ max_rules) }
-    ensures { First rules.now sizes.rulecount (agrees (has sizes.abelard p) later) p a result }
+    ensures first { First rules.now sizes.rulecount (agrees (has sizes.abelard p) later) p a (unwrap_or result sizes.rulecount) }
+    ensures within { IfSome result (λ r. r < sizes.rulecount) }
 {
-    if is_turn(has_state(sizes.abelard, p), later) {
-        return next_rule(rules, sizes.rulecount, 0, p, a);
+    if has_state(sizes.abelard, p) != later {
+        return None;
     }
-    sizes.rulecount
-}
-
-fn is_turn(abelards: bool, later: bool) -> bool
-    ensures { result ≡ agrees abelards later }
-{
-    if abelards {
-        return later;
-    }
-    !later
+    next_rule(rules, sizes.rulecount, 0, p, a)
 }
 
 // The job of rule r of a head: Abelard's takes one run for each of his rules, Éloise's the rule by itself.
@@ -225,7 +215,7 @@ fn run_at(
     r: usize,
     i: usize,
     late: u32,
-) -> usize
+) -> Option<usize>
     requires { Able job (length rules.now) (length work.now) × (r < job.end) × (i < runs_of rules.now r job.count) }
     ensures finished { (g : PushdownGame) (old : List Entry) (birthdate n : ℕ) (s : Growing)
         → Entered g old birthdate n job rules.now work.now table.old count memo.old s
@@ -235,7 +225,8 @@ fn run_at(
         → Past birthdate n late (map (entry_at job.state job.letter birthdate job.field) (rest_runs g (older birthdate old) (rules_between g job.state job.letter r job.end) 0)) s
         → Finished g old birthdate n
         (map (entry_at job.state job.letter birthdate job.field) (run_runs g old job.state job.letter job.end r i))
-        s table.new result memo.new }
+        s table.new (number_of n result) memo.new }
+    ensures within { count * 3 ≤ length table.old → IfSome result (λ filled. filled * 3 ≤ length table.old) }
     ensures table_len_unchanged { length table.new ≡ length table.old }
     ensures memo_len_unchanged { length memo.new ≡ length memo.old }
 {

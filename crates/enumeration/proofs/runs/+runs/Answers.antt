@@ -18,257 +18,188 @@ use lib.Pow.{pow_pos}
 use Prim.Native.Nat.{ℕ}
 use Rattle.enumeration.proofs.runs.+runs.Goals as goal
 
-pub pass_states-loop-job-init : goal.pass_states-loop-job-init
-pass_states-loop-job-init t c = (refl, refl, bounded-start _ _ _ c.requires.2 (omega arith) c.start_at-i.ensures.upper_bound, λ g old b n s h pl ag li whole small past. walk-starts g old b n _ _ _ _ _ _ _ s h _ _ _ _ c.highest.ensures c.requires.2 small (starts-below g old b n _ _ _ _ _ _ s h _ c.requires.1 _ pl _ _ small c.requires.2 c.highest.ensures _ (c.start_at-i.ensures.by_index _)) _ past _ _ _ _)
+pub pass_states-loop-found-init : goal.pass_states-loop-found-init
+pass_states-loop-found-init t c = (refl, refl, λ h. h, bounded-start _ _ _ c.requires.2 (omega arith) c.start_at-i.ensures.upper_bound, λ g old b n s h pl ag li whole small past. walk-starts g old b n _ _ _ _ _ _ _ s h _ _ _ _ c.highest.ensures c.requires.2 small (starts-below g old b n _ _ _ _ _ _ s h _ c.requires.1 _ pl _ _ small c.requires.2 c.highest.ensures _ (c.start_at-i.ensures.by_index _)) _ past _ _ _ _)
 
 pub pass_states-nonzero_rem-rest : goal.pass_states-nonzero_rem-rest
 pass_states-nonzero_rem-rest t c = rw (shifted_one _ c.highest-q.ensures.small) (omega (arith, pow_pos c.highest-q.result))
 
-pub pass_states-returns-then-depth-eq0 : goal.pass_states-returns-then-depth-eq0
-pass_states-returns-then-depth-eq0 t c =
-    record {
-      finished = λ g old b n s h pl ag li whole small past. let w = c.loop-job.invariant.3 g old b n s h pl ag li whole small past in walk_ends g old b n _ _ _ _ s _ _ _ _ _ _ _ _ _ _ _ _ _ _ w whole (within g old b n _ _ _ _ _ _ s h _ c.requires.1) _ c.highest-q.ensures _ c.tag_of-tag.ensures _ (rest-is _ _ c.highest-q.ensures) c.args.fresh.now ag c.fresh_on-new.result (c.fresh_on-new.ensures ∙ ap (λ (a : ℕ). get_or c.args.fresh.now a 0) (below-is g old b n _ _ _ _ _ _ s h _ c.requires.1)) c.older_below-passing.result c.older_below-passing.ensures _ _ c.next_open-found.ensures (omega (arith, c.next_open-found.ensures.within, c.loop-job.invariant.2.within, c.end_at-end.ensures.upper_bound)) (ends-below g old b n _ _ _ _ _ _ s h _ c.requires.1 _ pl _ _ w.fit.small w.fit.some c.highest-q.ensures _ (c.end_at-end.ensures.by_index _)) c.if-end-found.true c.if-depth-eq0.true;
-      table_len_unchanged = c.loop-job.invariant.0;
-      memo_len_unchanged = c.loop-job.invariant.1;
-    }
+pub pass_states-returns-then-depth-eq0-clause-finished : goal.pass_states-returns-then-depth-eq0-clause-finished
+pass_states-returns-then-depth-eq0-clause-finished t c =
+    λ g old b n s h pl ag li whole small past. let w = c.loop-found.invariant.4 g old b n s h pl ag li whole small past in walk_ends g old b n _ _ _ _ s _ _ _ _ _ _ _ _ _ _ _ _ _ _ w whole (within g old b n _ _ _ _ _ _ s h _ c.requires.1) _ c.highest-q.ensures _ c.tag_of-tag.ensures _ (rest-is _ _ c.highest-q.ensures) c.args.fresh.now ag c.fresh_on-new.result (c.fresh_on-new.ensures ∙ ap (λ (a : ℕ). get_or c.args.fresh.now a 0) (below-is g old b n _ _ _ _ _ _ s h _ c.requires.1)) c.older_below-passing.result c.older_below-passing.ensures _ _ c.in_default.ensures.skipped (omega (arith, c.in_default.ensures.skipped.within, c.loop-found.invariant.3.within, c.end_at-end.ensures.upper_bound)) (ends-below g old b n _ _ _ _ _ _ s h _ c.requires.1 _ pl _ _ w.fit.small w.fit.some c.highest-q.ensures _ (c.end_at-end.ensures.by_index _)) (omega arith) c.if-depth-eq0.true
 
 pub pass_states-offset_bounds-lefts-depth : goal.pass_states-offset_bounds-lefts-depth
-pass_states-offset_bounds-lefts-depth t c = omega (arith, deep _ _ _ _ _ _ _ _ c.loop-job.invariant.2)
+pass_states-offset_bounds-lefts-depth t c = omega (arith, deep _ _ _ _ _ _ _ _ c.loop-found.invariant.3)
 
 pub pass_states-bounds-lefts-depth : goal.pass_states-bounds-lefts-depth
-pass_states-bounds-lefts-depth t c = omega (arith, deep _ _ _ _ _ _ _ _ c.loop-job.invariant.2, c.loop-job.invariant.2.lefts-long)
+pass_states-bounds-lefts-depth t c = omega (arith, deep _ _ _ _ _ _ _ _ c.loop-found.invariant.3, c.loop-found.invariant.3.lefts-long)
 
 pub pass_states-offset_bounds-unions-depth : goal.pass_states-offset_bounds-unions-depth
-pass_states-offset_bounds-unions-depth t c = omega (arith, deep _ _ _ _ _ _ _ _ c.loop-job.invariant.2)
+pass_states-offset_bounds-unions-depth t c = omega (arith, deep _ _ _ _ _ _ _ _ c.loop-found.invariant.3)
 
 pub pass_states-bounds-unions-depth : goal.pass_states-bounds-unions-depth
-pass_states-bounds-unions-depth t c = omega (arith, deep _ _ _ _ _ _ _ _ c.loop-job.invariant.2, c.loop-job.invariant.2.unions-long)
+pass_states-bounds-unions-depth t c = omega (arith, deep _ _ _ _ _ _ _ _ c.loop-found.invariant.3, c.loop-found.invariant.3.unions-long)
 
 pub pass_states-offset_bounds-nexts-depth : goal.pass_states-offset_bounds-nexts-depth
-pass_states-offset_bounds-nexts-depth t c = omega (arith, deep _ _ _ _ _ _ _ _ c.loop-job.invariant.2)
+pass_states-offset_bounds-nexts-depth t c = omega (arith, deep _ _ _ _ _ _ _ _ c.loop-found.invariant.3)
 
 pub pass_states-bounds-nexts-depth : goal.pass_states-bounds-nexts-depth
-pass_states-bounds-nexts-depth t c = omega (arith, deep _ _ _ _ _ _ _ _ c.loop-job.invariant.2, c.loop-job.invariant.2.nexts-long)
+pass_states-bounds-nexts-depth t c = omega (arith, deep _ _ _ _ _ _ _ _ c.loop-found.invariant.3, c.loop-found.invariant.3.nexts-long)
 
 pub pass_states-offset_bounds-limits-depth : goal.pass_states-offset_bounds-limits-depth
-pass_states-offset_bounds-limits-depth t c = omega (arith, deep _ _ _ _ _ _ _ _ c.loop-job.invariant.2)
+pass_states-offset_bounds-limits-depth t c = omega (arith, deep _ _ _ _ _ _ _ _ c.loop-found.invariant.3)
 
 pub pass_states-bounds-limits-depth : goal.pass_states-bounds-limits-depth
-pass_states-bounds-limits-depth t c = omega (arith, deep _ _ _ _ _ _ _ _ c.loop-job.invariant.2, c.loop-job.invariant.2.limits-long)
+pass_states-bounds-limits-depth t c = omega (arith, deep _ _ _ _ _ _ _ _ c.loop-found.invariant.3, c.loop-found.invariant.3.limits-long)
 
-pub pass_states-loop-job-smaller-then-end-found : goal.pass_states-loop-job-smaller-then-end-found
-pass_states-loop-job-smaller-then-end-found t c = falls-before _ _ _ _ (omega (arith, c.if-depth-eq0.false)) c.loop-job.invariant.2.within
+pub pass_states-loop-found-smaller-in_default : goal.pass_states-loop-found-smaller-in_default
+pass_states-loop-found-smaller-in_default t c = falls-before _ _ _ _ (omega (arith, c.if-depth-eq0.false)) c.loop-found.invariant.3.within
 
-pub pass_states-loop-job-preserved-then-end-found : goal.pass_states-loop-job-preserved-then-end-found
-pass_states-loop-job-preserved-then-end-found t c = (c.loop-job.invariant.0, search rules, bounded-before _ _ _ _ _ _ _ _ c.loop-job.invariant.2 _ (omega (arith, c.if-depth-eq0.false)), λ g old b n s h pl ag li whole small past. let w = c.loop-job.invariant.3 g old b n s h pl ag li whole small past in walk-back g old b n _ _ _ _ s _ _ _ _ _ _ _ _ _ _ _ _ _ _ w whole (within g old b n _ _ _ _ _ _ s h _ c.requires.1) _ c.highest-q.ensures _ c.tag_of-tag.ensures _ (rest-is _ _ c.highest-q.ensures) c.args.fresh.now ag c.fresh_on-new.result (c.fresh_on-new.ensures ∙ ap (λ (a : ℕ). get_or c.args.fresh.now a 0) (below-is g old b n _ _ _ _ _ _ s h _ c.requires.1)) c.older_below-passing.result c.older_below-passing.ensures _ _ c.next_open-found.ensures (omega (arith, c.next_open-found.ensures.within, c.loop-job.invariant.2.within, c.end_at-end.ensures.upper_bound)) (ends-below g old b n _ _ _ _ _ _ s h _ c.requires.1 _ pl _ _ w.fit.small w.fit.some c.highest-q.ensures _ (c.end_at-end.ensures.by_index _)) c.if-end-found.true _ c.finish.ensures (omega (arith, c.if-depth-eq0.false)))
+pub pass_states-loop-found-preserved-in_default : goal.pass_states-loop-found-preserved-in_default
+pass_states-loop-found-preserved-in_default t c = (c.loop-found.invariant.0, search rules, c.loop-found.invariant.2, bounded-before _ _ _ _ _ _ _ _ c.loop-found.invariant.3 _ (omega (arith, c.if-depth-eq0.false)), λ g old b n s h pl ag li whole small past. let w = c.loop-found.invariant.4 g old b n s h pl ag li whole small past in walk-back g old b n _ _ _ _ s _ _ _ _ _ _ _ _ _ _ _ _ _ _ w whole (within g old b n _ _ _ _ _ _ s h _ c.requires.1) _ c.highest-q.ensures _ c.tag_of-tag.ensures _ (rest-is _ _ c.highest-q.ensures) c.args.fresh.now ag c.fresh_on-new.result (c.fresh_on-new.ensures ∙ ap (λ (a : ℕ). get_or c.args.fresh.now a 0) (below-is g old b n _ _ _ _ _ _ s h _ c.requires.1)) c.older_below-passing.result c.older_below-passing.ensures _ _ c.in_default.ensures.skipped (omega (arith, c.in_default.ensures.skipped.within, c.loop-found.invariant.3.within, c.end_at-end.ensures.upper_bound)) (ends-below g old b n _ _ _ _ _ _ s h _ c.requires.1 _ pl _ _ w.fit.small w.fit.some c.highest-q.ensures _ (c.end_at-end.ensures.by_index _)) (omega arith) _ c.finish.ensures (omega (arith, c.if-depth-eq0.false)))
 
-pub pass_states-rules_after-filled-requires : goal.pass_states-rules_after-filled-requires
-pass_states-rules_after-filled-requires t c = (omega arith, (c.requires.0, c.requires.1))
+pub pass_states-rules_after-requires : goal.pass_states-rules_after-requires
+pass_states-rules_after-requires t c = (omega arith, (c.requires.0, c.requires.1))
 
-pub pass_states-returns-then-table-filled : goal.pass_states-returns-then-table-filled
-pass_states-returns-then-table-filled t c =
-    record {
-      finished = λ g old b n s h pl ag li whole small past. let w = c.loop-job.invariant.3 g old b n s h pl ag li whole small past in walk-over g old b n _ _ _ _ s _ _ _ _ _ _ _ _ _ _ _ _ _ _ (walk-takes g old b n _ _ _ _ s _ _ _ _ _ _ _ _ _ _ _ _ _ _ w whole (within g old b n _ _ _ _ _ _ s h _ c.requires.1) _ c.highest-q.ensures _ c.tag_of-tag.ensures _ (rest-is _ _ c.highest-q.ensures) c.args.fresh.now ag c.fresh_on-new.result (c.fresh_on-new.ensures ∙ ap (λ (a : ℕ). get_or c.args.fresh.now a 0) (below-is g old b n _ _ _ _ _ _ s h _ c.requires.1)) c.older_below-passing.result c.older_below-passing.ensures _ _ c.next_open-found.ensures (omega (arith, c.next_open-found.ensures.within, c.loop-job.invariant.2.within, c.end_at-end.ensures.upper_bound)) (ends-below g old b n _ _ _ _ _ _ s h _ c.requires.1 _ pl _ _ w.fit.small w.fit.some c.highest-q.ensures _ (c.end_at-end.ensures.by_index _)) c.if-end-found.false (below-small g old b n _ _ _ _ _ _ s h _ c.requires.1 _ pl) _ refl c.if-rest-eq0.true _ _ _ (c.rules_after-filled.ensures.finished g old b n w.now w.entered pl ag li whole (word-adds g old b n _ _ _ _ _ _ w.now w.entered c.next_open-found.result c.loop-job.union (omega (arith, c.if-end-found.false, c.end_at-end.ensures.upper_bound))) (past-last g old b n _ _ _ _ s _ _ _ _ _ _ _ _ _ _ _ _ _ _ w whole (within g old b n _ _ _ _ _ _ s h _ c.requires.1) _ c.highest-q.ensures _ c.tag_of-tag.ensures _ (rest-is _ _ c.highest-q.ensures) c.args.fresh.now ag c.fresh_on-new.result (c.fresh_on-new.ensures ∙ ap (λ (a : ℕ). get_or c.args.fresh.now a 0) (below-is g old b n _ _ _ _ _ _ s h _ c.requires.1)) c.older_below-passing.result c.older_below-passing.ensures _ _ c.next_open-found.ensures (omega (arith, c.next_open-found.ensures.within, c.loop-job.invariant.2.within, c.end_at-end.ensures.upper_bound)) (ends-below g old b n _ _ _ _ _ _ s h _ c.requires.1 _ pl _ _ w.fit.small w.fit.some c.highest-q.ensures _ (c.end_at-end.ensures.by_index _)) c.if-end-found.false (below-small g old b n _ _ _ _ _ _ s h _ c.requires.1 _ pl) _ refl c.if-rest-eq0.true c.still_late-still.result c.still_late-still.ensures))) c.if-table-filled.true;
-      table_len_unchanged = c.rules_after-filled.ensures.table_len_unchanged ∙ c.loop-job.invariant.0;
-      memo_len_unchanged = c.rules_after-filled.ensures.memo_len_unchanged ∙ c.loop-job.invariant.1;
-    }
+pub pass_states-returns-in_err-filled-clause-finished : goal.pass_states-returns-in_err-filled-clause-finished
+pass_states-returns-in_err-filled-clause-finished t c =
+    rw c.from_residual.ensures
+    (λ g old b n s h pl ag li whole small past. let w = c.loop-found.invariant.4 g old b n s h pl ag li whole small past in walk-over g old b n _ _ _ _ s _ _ _ _ _ _ _ _ _ _ _ _ _ _ (walk-takes g old b n _ _ _ _ s _ _ _ _ _ _ _ _ _ _ _ _ _ _ w whole (within g old b n _ _ _ _ _ _ s h _ c.requires.1) _ c.highest-q.ensures _ c.tag_of-tag.ensures _ (rest-is _ _ c.highest-q.ensures) c.args.fresh.now ag c.fresh_on-new.result (c.fresh_on-new.ensures ∙ ap (λ (a : ℕ). get_or c.args.fresh.now a 0) (below-is g old b n _ _ _ _ _ _ s h _ c.requires.1)) c.older_below-passing.result c.older_below-passing.ensures _ _ c.in-Some.ensures.skipped (omega (arith, c.in-Some.ensures.skipped.within, c.loop-found.invariant.3.within, c.end_at-end.ensures.upper_bound)) (ends-below g old b n _ _ _ _ _ _ s h _ c.requires.1 _ pl _ _ w.fit.small w.fit.some c.highest-q.ensures _ (c.end_at-end.ensures.by_index _)) c.in-Some.ensures.within (below-small g old b n _ _ _ _ _ _ s h _ c.requires.1 _ pl) _ refl c.if-rest-eq0.true _ _ _ (c.in_err-filled.ensures.finished g old b n w.now w.entered pl ag li whole (word-adds g old b n _ _ _ _ _ _ w.now w.entered c.in-Some.found c.loop-found.union (omega (arith, c.in-Some.ensures.within, c.end_at-end.ensures.upper_bound))) (past-last g old b n _ _ _ _ s _ _ _ _ _ _ _ _ _ _ _ _ _ _ w whole (within g old b n _ _ _ _ _ _ s h _ c.requires.1) _ c.highest-q.ensures _ c.tag_of-tag.ensures _ (rest-is _ _ c.highest-q.ensures) c.args.fresh.now ag c.fresh_on-new.result (c.fresh_on-new.ensures ∙ ap (λ (a : ℕ). get_or c.args.fresh.now a 0) (below-is g old b n _ _ _ _ _ _ s h _ c.requires.1)) c.older_below-passing.result c.older_below-passing.ensures _ _ c.in-Some.ensures.skipped (omega (arith, c.in-Some.ensures.skipped.within, c.loop-found.invariant.3.within, c.end_at-end.ensures.upper_bound)) (ends-below g old b n _ _ _ _ _ _ s h _ c.requires.1 _ pl _ _ w.fit.small w.fit.some c.highest-q.ensures _ (c.end_at-end.ensures.by_index _)) c.in-Some.ensures.within (below-small g old b n _ _ _ _ _ _ s h _ c.requires.1 _ pl) _ refl c.if-rest-eq0.true c.still_late-still.result c.still_late-still.ensures))) refl)
 
-pub pass_states-loop-job-smaller-then-rest-eq0 : goal.pass_states-loop-job-smaller-then-rest-eq0
-pass_states-loop-job-smaller-then-rest-eq0 t c = falls-here _ _ _ _ _ c.next_open-found.ensures.after (omega (arith, c.if-end-found.false, c.end_at-end.ensures.upper_bound))
+pub pass_states-loop-found-smaller-then-rest-eq0 : goal.pass_states-loop-found-smaller-then-rest-eq0
+pass_states-loop-found-smaller-then-rest-eq0 t c = falls-here _ _ _ _ _ c.in-Some.ensures.skipped.after (omega (arith, c.in-Some.ensures.within, c.end_at-end.ensures.upper_bound))
 
-pub pass_states-loop-job-preserved-then-rest-eq0 : goal.pass_states-loop-job-preserved-then-rest-eq0
-pass_states-loop-job-preserved-then-rest-eq0 t c = (c.rules_after-filled.ensures.table_len_unchanged ∙ c.loop-job.invariant.0, c.rules_after-filled.ensures.memo_len_unchanged ∙ c.loop-job.invariant.1, bounded_at _ _ _ _ _ _ _ _ c.loop-job.invariant.2 _ (omega (arith, c.if-end-found.false, c.end_at-end.ensures.upper_bound)), λ g old b n s h pl ag li whole small past. let w = c.loop-job.invariant.3 g old b n s h pl ag li whole small past in walk-takes g old b n _ _ _ _ s _ _ _ _ _ _ _ _ _ _ _ _ _ _ w whole (within g old b n _ _ _ _ _ _ s h _ c.requires.1) _ c.highest-q.ensures _ c.tag_of-tag.ensures _ (rest-is _ _ c.highest-q.ensures) c.args.fresh.now ag c.fresh_on-new.result (c.fresh_on-new.ensures ∙ ap (λ (a : ℕ). get_or c.args.fresh.now a 0) (below-is g old b n _ _ _ _ _ _ s h _ c.requires.1)) c.older_below-passing.result c.older_below-passing.ensures _ _ c.next_open-found.ensures (omega (arith, c.next_open-found.ensures.within, c.loop-job.invariant.2.within, c.end_at-end.ensures.upper_bound)) (ends-below g old b n _ _ _ _ _ _ s h _ c.requires.1 _ pl _ _ w.fit.small w.fit.some c.highest-q.ensures _ (c.end_at-end.ensures.by_index _)) c.if-end-found.false (below-small g old b n _ _ _ _ _ _ s h _ c.requires.1 _ pl) _ refl c.if-rest-eq0.true _ _ _ (c.rules_after-filled.ensures.finished g old b n w.now w.entered pl ag li whole (word-adds g old b n _ _ _ _ _ _ w.now w.entered c.next_open-found.result c.loop-job.union (omega (arith, c.if-end-found.false, c.end_at-end.ensures.upper_bound))) (past-last g old b n _ _ _ _ s _ _ _ _ _ _ _ _ _ _ _ _ _ _ w whole (within g old b n _ _ _ _ _ _ s h _ c.requires.1) _ c.highest-q.ensures _ c.tag_of-tag.ensures _ (rest-is _ _ c.highest-q.ensures) c.args.fresh.now ag c.fresh_on-new.result (c.fresh_on-new.ensures ∙ ap (λ (a : ℕ). get_or c.args.fresh.now a 0) (below-is g old b n _ _ _ _ _ _ s h _ c.requires.1)) c.older_below-passing.result c.older_below-passing.ensures _ _ c.next_open-found.ensures (omega (arith, c.next_open-found.ensures.within, c.loop-job.invariant.2.within, c.end_at-end.ensures.upper_bound)) (ends-below g old b n _ _ _ _ _ _ s h _ c.requires.1 _ pl _ _ w.fit.small w.fit.some c.highest-q.ensures _ (c.end_at-end.ensures.by_index _)) c.if-end-found.false (below-small g old b n _ _ _ _ _ _ s h _ c.requires.1 _ pl) _ refl c.if-rest-eq0.true c.still_late-still.result c.still_late-still.ensures)))
+pub pass_states-loop-found-preserved-then-rest-eq0 : goal.pass_states-loop-found-preserved-then-rest-eq0
+pass_states-loop-found-preserved-then-rest-eq0 t c = (c.in_ok-filled.ensures.table_len_unchanged ∙ c.loop-found.invariant.0, c.in_ok-filled.ensures.memo_len_unchanged ∙ c.loop-found.invariant.1, λ h. omega (arith, c.loop-found.invariant.0, c.in_ok-filled.ensures.within (omega (arith, c.loop-found.invariant.0, c.loop-found.invariant.2 h))), bounded_at _ _ _ _ _ _ _ _ c.loop-found.invariant.3 _ (omega (arith, c.in-Some.ensures.within, c.end_at-end.ensures.upper_bound)), λ g old b n s h pl ag li whole small past. let w = c.loop-found.invariant.4 g old b n s h pl ag li whole small past in walk-takes g old b n _ _ _ _ s _ _ _ _ _ _ _ _ _ _ _ _ _ _ w whole (within g old b n _ _ _ _ _ _ s h _ c.requires.1) _ c.highest-q.ensures _ c.tag_of-tag.ensures _ (rest-is _ _ c.highest-q.ensures) c.args.fresh.now ag c.fresh_on-new.result (c.fresh_on-new.ensures ∙ ap (λ (a : ℕ). get_or c.args.fresh.now a 0) (below-is g old b n _ _ _ _ _ _ s h _ c.requires.1)) c.older_below-passing.result c.older_below-passing.ensures _ _ c.in-Some.ensures.skipped (omega (arith, c.in-Some.ensures.skipped.within, c.loop-found.invariant.3.within, c.end_at-end.ensures.upper_bound)) (ends-below g old b n _ _ _ _ _ _ s h _ c.requires.1 _ pl _ _ w.fit.small w.fit.some c.highest-q.ensures _ (c.end_at-end.ensures.by_index _)) c.in-Some.ensures.within (below-small g old b n _ _ _ _ _ _ s h _ c.requires.1 _ pl) _ refl c.if-rest-eq0.true _ _ _ (c.in_ok-filled.ensures.finished g old b n w.now w.entered pl ag li whole (word-adds g old b n _ _ _ _ _ _ w.now w.entered c.in-Some.found c.loop-found.union (omega (arith, c.in-Some.ensures.within, c.end_at-end.ensures.upper_bound))) (past-last g old b n _ _ _ _ s _ _ _ _ _ _ _ _ _ _ _ _ _ _ w whole (within g old b n _ _ _ _ _ _ s h _ c.requires.1) _ c.highest-q.ensures _ c.tag_of-tag.ensures _ (rest-is _ _ c.highest-q.ensures) c.args.fresh.now ag c.fresh_on-new.result (c.fresh_on-new.ensures ∙ ap (λ (a : ℕ). get_or c.args.fresh.now a 0) (below-is g old b n _ _ _ _ _ _ s h _ c.requires.1)) c.older_below-passing.result c.older_below-passing.ensures _ _ c.in-Some.ensures.skipped (omega (arith, c.in-Some.ensures.skipped.within, c.loop-found.invariant.3.within, c.end_at-end.ensures.upper_bound)) (ends-below g old b n _ _ _ _ _ _ s h _ c.requires.1 _ pl _ _ w.fit.small w.fit.some c.highest-q.ensures _ (c.end_at-end.ensures.by_index _)) c.in-Some.ensures.within (below-small g old b n _ _ _ _ _ _ s h _ c.requires.1 _ pl) _ refl c.if-rest-eq0.true c.still_late-still.result c.still_late-still.ensures)))
 
-pub pass_states-offset_bounds-lefts-depth-in-loop-job : goal.pass_states-offset_bounds-lefts-depth-in-loop-job
-pass_states-offset_bounds-lefts-depth-in-loop-job t c = omega (arith, deep _ _ _ _ _ _ _ _ c.loop-job.invariant.2)
+pub pass_states-offset_bounds-lefts-depth-in-loop-found : goal.pass_states-offset_bounds-lefts-depth-in-loop-found
+pass_states-offset_bounds-lefts-depth-in-loop-found t c = omega (arith, deep _ _ _ _ _ _ _ _ c.loop-found.invariant.3)
 
-pub pass_states-bounds-lefts-depth-in-loop-job : goal.pass_states-bounds-lefts-depth-in-loop-job
-pass_states-bounds-lefts-depth-in-loop-job t c = omega (arith, deep _ _ _ _ _ _ _ _ c.loop-job.invariant.2, c.loop-job.invariant.2.lefts-long)
+pub pass_states-bounds-lefts-depth-in-loop-found : goal.pass_states-bounds-lefts-depth-in-loop-found
+pass_states-bounds-lefts-depth-in-loop-found t c = omega (arith, deep _ _ _ _ _ _ _ _ c.loop-found.invariant.3, c.loop-found.invariant.3.lefts-long)
 
-pub pass_states-offset_bounds-unions-depth-in-loop-job : goal.pass_states-offset_bounds-unions-depth-in-loop-job
-pass_states-offset_bounds-unions-depth-in-loop-job t c = omega (arith, deep _ _ _ _ _ _ _ _ c.loop-job.invariant.2)
+pub pass_states-offset_bounds-unions-depth-in-loop-found : goal.pass_states-offset_bounds-unions-depth-in-loop-found
+pass_states-offset_bounds-unions-depth-in-loop-found t c = omega (arith, deep _ _ _ _ _ _ _ _ c.loop-found.invariant.3)
 
-pub pass_states-bounds-unions-depth-in-loop-job : goal.pass_states-bounds-unions-depth-in-loop-job
-pass_states-bounds-unions-depth-in-loop-job t c = omega (arith, deep _ _ _ _ _ _ _ _ c.loop-job.invariant.2, c.loop-job.invariant.2.unions-long)
+pub pass_states-bounds-unions-depth-in-loop-found : goal.pass_states-bounds-unions-depth-in-loop-found
+pass_states-bounds-unions-depth-in-loop-found t c = omega (arith, deep _ _ _ _ _ _ _ _ c.loop-found.invariant.3, c.loop-found.invariant.3.unions-long)
 
-pub pass_states-offset_bounds-nexts-depth-in-loop-job : goal.pass_states-offset_bounds-nexts-depth-in-loop-job
-pass_states-offset_bounds-nexts-depth-in-loop-job t c = omega (arith, deep _ _ _ _ _ _ _ _ c.loop-job.invariant.2)
+pub pass_states-offset_bounds-nexts-depth-in-loop-found : goal.pass_states-offset_bounds-nexts-depth-in-loop-found
+pass_states-offset_bounds-nexts-depth-in-loop-found t c = omega (arith, deep _ _ _ _ _ _ _ _ c.loop-found.invariant.3)
 
-pub pass_states-bounds-nexts-depth-in-loop-job : goal.pass_states-bounds-nexts-depth-in-loop-job
-pass_states-bounds-nexts-depth-in-loop-job t c = omega (arith, deep _ _ _ _ _ _ _ _ c.loop-job.invariant.2, c.loop-job.invariant.2.nexts-long)
+pub pass_states-bounds-nexts-depth-in-loop-found : goal.pass_states-bounds-nexts-depth-in-loop-found
+pass_states-bounds-nexts-depth-in-loop-found t c = omega (arith, deep _ _ _ _ _ _ _ _ c.loop-found.invariant.3, c.loop-found.invariant.3.nexts-long)
 
-pub pass_states-offset_bounds-limits-depth-in-loop-job : goal.pass_states-offset_bounds-limits-depth-in-loop-job
-pass_states-offset_bounds-limits-depth-in-loop-job t c = omega (arith, deep _ _ _ _ _ _ _ _ c.loop-job.invariant.2)
+pub pass_states-offset_bounds-limits-depth-in-loop-found : goal.pass_states-offset_bounds-limits-depth-in-loop-found
+pass_states-offset_bounds-limits-depth-in-loop-found t c = omega (arith, deep _ _ _ _ _ _ _ _ c.loop-found.invariant.3)
 
-pub pass_states-bounds-limits-depth-in-loop-job : goal.pass_states-bounds-limits-depth-in-loop-job
-pass_states-bounds-limits-depth-in-loop-job t c = omega (arith, deep _ _ _ _ _ _ _ _ c.loop-job.invariant.2, c.loop-job.invariant.2.limits-long)
+pub pass_states-bounds-limits-depth-in-loop-found : goal.pass_states-bounds-limits-depth-in-loop-found
+pass_states-bounds-limits-depth-in-loop-found t c = omega (arith, deep _ _ _ _ _ _ _ _ c.loop-found.invariant.3, c.loop-found.invariant.3.limits-long)
 
 pub pass_states-overflow_add-depth : goal.pass_states-overflow_add-depth
-pass_states-overflow_add-depth t c = omega (arith, deep _ _ _ _ _ _ _ _ c.loop-job.invariant.2)
+pass_states-overflow_add-depth t c = omega (arith, deep _ _ _ _ _ _ _ _ c.loop-found.invariant.3)
 
-pub pass_states-loop-job-smaller : goal.pass_states-loop-job-smaller
-pass_states-loop-job-smaller t c = falls-after _ _ _ _ _ _ (deep _ _ _ _ _ _ _ _ c.loop-job.invariant.2) c.loop-job.invariant.2.nexts-long c.next_open-found.ensures.after (omega (arith, c.if-end-found.false, c.end_at-end.ensures.upper_bound))
+pub pass_states-loop-found-smaller : goal.pass_states-loop-found-smaller
+pass_states-loop-found-smaller t c = falls-after _ _ _ _ _ _ (deep _ _ _ _ _ _ _ _ c.loop-found.invariant.3) c.loop-found.invariant.3.nexts-long c.in-Some.ensures.skipped.after (omega (arith, c.in-Some.ensures.within, c.end_at-end.ensures.upper_bound))
 
-pub pass_states-loop-job-preserved : goal.pass_states-loop-job-preserved
-pass_states-loop-job-preserved t c = (c.loop-job.invariant.0, c.loop-job.invariant.1, bounded-after _ _ _ _ _ _ _ _ c.loop-job.invariant.2 _ c.highest-q.ensures _ _ _ _ _ (rest-is _ _ c.highest-q.ensures) c.if-rest-eq0.false (omega (arith, c.if-end-found.false, c.end_at-end.ensures.upper_bound)) c.start_at-i-in-loop-job.ensures.upper_bound, λ g old b n s h pl ag li whole small past. let w = c.loop-job.invariant.3 g old b n s h pl ag li whole small past in walk-opens g old b n _ _ _ _ s _ _ _ _ _ _ _ _ _ _ _ _ _ _ w whole (within g old b n _ _ _ _ _ _ s h _ c.requires.1) _ c.highest-q.ensures _ c.tag_of-tag.ensures _ (rest-is _ _ c.highest-q.ensures) c.args.fresh.now ag c.fresh_on-new.result (c.fresh_on-new.ensures ∙ ap (λ (a : ℕ). get_or c.args.fresh.now a 0) (below-is g old b n _ _ _ _ _ _ s h _ c.requires.1)) c.older_below-passing.result c.older_below-passing.ensures _ _ c.next_open-found.ensures (omega (arith, c.next_open-found.ensures.within, c.loop-job.invariant.2.within, c.end_at-end.ensures.upper_bound)) (ends-below g old b n _ _ _ _ _ _ s h _ c.requires.1 _ pl _ _ w.fit.small w.fit.some c.highest-q.ensures _ (c.end_at-end.ensures.by_index _)) c.if-end-found.false (below-small g old b n _ _ _ _ _ _ s h _ c.requires.1 _ pl) _ refl c.if-rest-eq0.false (deep _ _ _ _ _ _ _ _ c.loop-job.invariant.2) c.loop-job.invariant.2.lefts-long c.loop-job.invariant.2.unions-long c.loop-job.invariant.2.nexts-long c.loop-job.invariant.2.limits-long _ _ c.highest-in-loop-job.ensures (starts-below g old b n _ _ _ _ _ _ s h _ c.requires.1 _ pl _ _ (rest_below _ _ _ _ w.fit.small (rest-is _ _ c.highest-q.ensures) w.fit.some c.highest-q.ensures) (omega (arith, c.if-rest-eq0.false)) c.highest-in-loop-job.ensures _ (c.start_at-i-in-loop-job.ensures.by_index _)) c.still_late-still.result c.still_late-still.ensures)
+pub pass_states-loop-found-preserved : goal.pass_states-loop-found-preserved
+pass_states-loop-found-preserved t c = (c.loop-found.invariant.0, c.loop-found.invariant.1, c.loop-found.invariant.2, bounded-after _ _ _ _ _ _ _ _ c.loop-found.invariant.3 _ c.highest-q.ensures _ _ _ _ _ (rest-is _ _ c.highest-q.ensures) c.if-rest-eq0.false (omega (arith, c.in-Some.ensures.within, c.end_at-end.ensures.upper_bound)) c.start_at-i-in-loop-found.ensures.upper_bound, λ g old b n s h pl ag li whole small past. let w = c.loop-found.invariant.4 g old b n s h pl ag li whole small past in walk-opens g old b n _ _ _ _ s _ _ _ _ _ _ _ _ _ _ _ _ _ _ w whole (within g old b n _ _ _ _ _ _ s h _ c.requires.1) _ c.highest-q.ensures _ c.tag_of-tag.ensures _ (rest-is _ _ c.highest-q.ensures) c.args.fresh.now ag c.fresh_on-new.result (c.fresh_on-new.ensures ∙ ap (λ (a : ℕ). get_or c.args.fresh.now a 0) (below-is g old b n _ _ _ _ _ _ s h _ c.requires.1)) c.older_below-passing.result c.older_below-passing.ensures _ _ c.in-Some.ensures.skipped (omega (arith, c.in-Some.ensures.skipped.within, c.loop-found.invariant.3.within, c.end_at-end.ensures.upper_bound)) (ends-below g old b n _ _ _ _ _ _ s h _ c.requires.1 _ pl _ _ w.fit.small w.fit.some c.highest-q.ensures _ (c.end_at-end.ensures.by_index _)) c.in-Some.ensures.within (below-small g old b n _ _ _ _ _ _ s h _ c.requires.1 _ pl) _ refl c.if-rest-eq0.false (deep _ _ _ _ _ _ _ _ c.loop-found.invariant.3) c.loop-found.invariant.3.lefts-long c.loop-found.invariant.3.unions-long c.loop-found.invariant.3.nexts-long c.loop-found.invariant.3.limits-long _ _ c.highest-in-loop-found.ensures (starts-below g old b n _ _ _ _ _ _ s h _ c.requires.1 _ pl _ _ (rest_below _ _ _ _ w.fit.small (rest-is _ _ c.highest-q.ensures) w.fit.some c.highest-q.ensures) (omega (arith, c.if-rest-eq0.false)) c.highest-in-loop-found.ensures _ (c.start_at-i-in-loop-found.ensures.by_index _)) c.still_late-still.result c.still_late-still.ensures)
 
-pub rules_after-returns-then-older_below-gt0 : goal.rules_after-returns-then-older_below-gt0
-rules_after-returns-then-older_below-gt0 t c =
-    record {
-      finished = λ g old b n s h pl ag li whole some past. let known = c.older_below.ensures c.if-older_below-gt0.true in none-older g old b n _ _ _ _ _ _ s h c.args.fresh.now ag _ 0 _ _ past (omega (arith, known.0, c.if-older_below-gt0.true)) known.1 refl;
-      table_len_unchanged = refl;
-      memo_len_unchanged = refl;
-    }
+pub rules_after-returns-then-older_below-gt0-clause-finished : goal.rules_after-returns-then-older_below-gt0-clause-finished
+rules_after-returns-then-older_below-gt0-clause-finished t c =
+    λ g old b n s h pl ag li whole some past. let known = c.older_below.ensures c.if-older_below-gt0.true in none-older g old b n _ _ _ _ _ _ s h c.args.fresh.now ag _ 0 _ _ past (omega (arith, known.0, c.if-older_below-gt0.true)) known.1 refl
 
-pub rules_after-returns-then-is_finished : goal.rules_after-returns-then-is_finished
-rules_after-returns-then-is_finished t c =
-    record {
-      finished = λ g old b n s h pl ag li whole some past. hit g old b n _ _ _ _ _ _ s h _ _ _ _ whole c.requires.1 c.tag_of-tag.ensures (c.is_finished.ensures c.if-is_finished.true);
-      table_len_unchanged = refl;
-      memo_len_unchanged = refl;
-    }
+pub rules_after-returns-then-is_finished-clause-finished : goal.rules_after-returns-then-is_finished-clause-finished
+rules_after-returns-then-is_finished-clause-finished t c =
+    λ g old b n s h pl ag li whole some past. hit g old b n _ _ _ _ _ _ s h _ _ _ _ whole c.requires.1 c.tag_of-tag.ensures (c.is_finished.ensures c.if-is_finished.true)
 
 pub rules_after-rules_from-filled-requires : goal.rules_after-rules_from-filled-requires
 rules_after-rules_from-filled-requires t c = (omega (arith, c.requires.1), (c.requires.0, omega (arith, c.requires.1)))
 
-pub rules_after-returns : goal.rules_after-returns
-rules_after-returns t c =
-    record {
-      finished = λ g old b n s h pl ag li whole some past. notes g old b n _ _ _ _ _ _ s h _ _ _ _ whole c.requires.1 c.tag_of-tag.ensures _ _ _ _ (none-of-it g old b n _ _ _ _ _ _ s h _ _ (c.rules_from-filled.ensures.finished g old b n s h pl ag li (later g _ _ whole) some (past-rest g old b n _ _ _ _ _ _ s h _ _ _ past))) c.finish.ensures;
-      table_len_unchanged = search rules;
-      memo_len_unchanged = search rules;
-    }
+pub rules_after-returns-clause-finished : goal.rules_after-returns-clause-finished
+rules_after-returns-clause-finished t c =
+    λ g old b n s h pl ag li whole some past. notes g old b n _ _ _ _ _ _ s h _ _ _ _ whole c.requires.1 c.tag_of-tag.ensures _ _ _ _ (none-of-it g old b n _ _ _ _ _ _ s h _ _ (c.rules_from-filled.ensures.finished g old b n s h pl ag li (later g _ _ whole) some (past-rest g old b n _ _ _ _ _ _ s h _ _ _ past))) c.finish.ensures
 
 pub rules_by-loop-i-init : goal.rules_by-loop-i-init
-rules_by-loop-i-init t c = (refl, refl, omega (arith, c.list_start-i.ensures), λ g old b n s h pl ag li whole. list-starts c.args.lists.now c.args.spans.now c.args.r g old b n _ _ _ c.args.union _ _ _ s h _ c.list_start-i.ensures)
+rules_by-loop-i-init t c = (refl, refl, λ h. h, omega (arith, c.list_start-i.ensures), λ g old b n s h pl ag li whole. list-starts c.args.lists.now c.args.spans.now c.args.r g old b n _ _ _ c.args.union _ _ _ s h _ c.list_start-i.ensures)
 
-pub rules_by-rules_after-filled-requires : goal.rules_by-rules_after-filled-requires
-rules_by-rules_after-filled-requires t c = (omega arith, (c.requires.0, c.requires.1))
+pub rules_by-rules_after-requires : goal.rules_by-rules_after-requires
+rules_by-rules_after-requires t c = (omega arith, (c.requires.0, c.requires.1))
 
-pub rules_by-returns-then-table-filled : goal.rules_by-returns-then-table-filled
-rules_by-returns-then-table-filled t c =
-    record {
-      finished = λ g old b n s h pl ag li whole listed. let k = c.loop-i.invariant.3 g old b n s h pl ag li whole in list_over c.args.lists.now c.args.spans.now c.args.r g old b n _ _ _ c.args.union s (c.loop-i.i + 1) _ _ _ (list-next c.args.lists.now c.args.spans.now c.args.r g old b n _ _ _ c.args.union s c.loop-i.i _ _ _ k c.loop-i.invariant.2 (omega (arith, c.loop-i-test.true, c.list_end-end.ensures)) _ _ _ (c.rules_after-filled.ensures.finished g old b n k.now k.entered pl ag li whole (adds c.args.lists.now c.args.spans.now c.args.r g old li (omega (arith, h.stands.last, c.requires.1)) c.loop-i.i c.loop-i.invariant.2 (omega (arith, c.loop-i-test.true, c.list_end-end.ensures)) c.args.union) (λ none. absurd (omega (arith, none))))) c.if-table-filled.true;
-      table_len_unchanged = c.rules_after-filled.ensures.table_len_unchanged ∙ c.loop-i.invariant.0;
-      memo_len_unchanged = c.rules_after-filled.ensures.memo_len_unchanged ∙ c.loop-i.invariant.1;
-    }
+pub rules_by-returns-in_err-filled-clause-finished : goal.rules_by-returns-in_err-filled-clause-finished
+rules_by-returns-in_err-filled-clause-finished t c =
+    rw c.from_residual.ensures
+    (λ g old b n s h pl ag li whole listed. let k = c.loop-i.invariant.4 g old b n s h pl ag li whole in list_over c.args.lists.now c.args.spans.now c.args.r g old b n _ _ _ c.args.union s (c.loop-i.i + 1) _ _ _ (list-next c.args.lists.now c.args.spans.now c.args.r g old b n _ _ _ c.args.union s c.loop-i.i _ _ _ k c.loop-i.invariant.3 (omega (arith, c.loop-i-test.true, c.list_end-end.ensures)) _ _ _ (c.in_err-filled.ensures.finished g old b n k.now k.entered pl ag li whole (adds c.args.lists.now c.args.spans.now c.args.r g old li (omega (arith, h.stands.last, c.requires.1)) c.loop-i.i c.loop-i.invariant.3 (omega (arith, c.loop-i-test.true, c.list_end-end.ensures)) c.args.union) (λ none. absurd (omega (arith, none))))) refl)
 
 pub rules_by-loop-i-preserved : goal.rules_by-loop-i-preserved
-rules_by-loop-i-preserved t c = (c.rules_after-filled.ensures.table_len_unchanged ∙ c.loop-i.invariant.0, c.rules_after-filled.ensures.memo_len_unchanged ∙ c.loop-i.invariant.1, omega (arith, c.loop-i.invariant.2), λ g old b n s h pl ag li whole. let k = c.loop-i.invariant.3 g old b n s h pl ag li whole in list-next c.args.lists.now c.args.spans.now c.args.r g old b n _ _ _ c.args.union s c.loop-i.i _ _ _ k c.loop-i.invariant.2 (omega (arith, c.loop-i-test.true, c.list_end-end.ensures)) _ _ _ (c.rules_after-filled.ensures.finished g old b n k.now k.entered pl ag li whole (adds c.args.lists.now c.args.spans.now c.args.r g old li (omega (arith, h.stands.last, c.requires.1)) c.loop-i.i c.loop-i.invariant.2 (omega (arith, c.loop-i-test.true, c.list_end-end.ensures)) c.args.union) (λ none. absurd (omega (arith, none)))))
+rules_by-loop-i-preserved t c = (c.in_ok-filled.ensures.table_len_unchanged ∙ c.loop-i.invariant.0, c.in_ok-filled.ensures.memo_len_unchanged ∙ c.loop-i.invariant.1, λ h. omega (arith, c.loop-i.invariant.0, c.in_ok-filled.ensures.within (omega (arith, c.loop-i.invariant.0, c.loop-i.invariant.2 h))), omega (arith, c.loop-i.invariant.3), λ g old b n s h pl ag li whole. let k = c.loop-i.invariant.4 g old b n s h pl ag li whole in list-next c.args.lists.now c.args.spans.now c.args.r g old b n _ _ _ c.args.union s c.loop-i.i _ _ _ k c.loop-i.invariant.3 (omega (arith, c.loop-i-test.true, c.list_end-end.ensures)) _ _ _ (c.in_ok-filled.ensures.finished g old b n k.now k.entered pl ag li whole (adds c.args.lists.now c.args.spans.now c.args.r g old li (omega (arith, h.stands.last, c.requires.1)) c.loop-i.i c.loop-i.invariant.3 (omega (arith, c.loop-i-test.true, c.list_end-end.ensures)) c.args.union) (λ none. absurd (omega (arith, none)))))
 
-pub rules_by-returns : goal.rules_by-returns
-rules_by-returns t c =
-    record {
-      finished = λ g old b n s h pl ag li whole listed. list-ends c.args.lists.now c.args.spans.now c.args.r g old b n _ _ _ c.args.union s c.loop-i.i _ _ _ (c.loop-i.invariant.3 g old b n s h pl ag li whole) (omega (arith, c.loop-i-test.false, c.list_end-end.ensures));
-      table_len_unchanged = c.loop-i.invariant.0;
-      memo_len_unchanged = c.loop-i.invariant.1;
-    }
+pub rules_by-returns-clause-finished : goal.rules_by-returns-clause-finished
+rules_by-returns-clause-finished t c =
+    λ g old b n s h pl ag li whole listed. list-ends c.args.lists.now c.args.spans.now c.args.r g old b n _ _ _ c.args.union s c.loop-i.i _ _ _ (c.loop-i.invariant.4 g old b n s h pl ag li whole) (omega (arith, c.loop-i-test.false, c.list_end-end.ensures))
 
-pub rules_from-returns-then-job-r : goal.rules_from-returns-then-job-r
-rules_from-returns-then-job-r t c =
-    record {
-      finished = λ g old b n s h pl ag li late some past. no-rule g old b n _ _ _ _ _ _ s h _ _ _ c.next_rule-r.ensures c.if-job-r.true some (omega arith) _ _ (λ small. c.insert.ensures.by_index n s (long_of n _ _ s h.filled) h.filled small);
-      table_len_unchanged = c.insert.ensures.table_len_unchanged;
-      memo_len_unchanged = refl;
-    }
+pub rules_from-returns-in_default-clause-finished : goal.rules_from-returns-in_default-clause-finished
+rules_from-returns-in_default-clause-finished t c =
+    λ g old b n s h pl ag li late some past. no-rule g old b n _ _ _ _ _ _ s h _ _ _ c.in_default.ensures.next (omega arith) some (omega arith) _ _ (λ small. c.insert.ensures.by_index n s (long_of n _ _ s h.filled) h.filled small)
 
 pub rules_from-rules_after-requires : goal.rules_from-rules_after-requires
-rules_from-rules_after-requires t c = (omega (arith, c.next_rule-r.ensures.after, c.if-job-r.false), (c.requires.0, c.if-job-r.false))
+rules_from-rules_after-requires t c = (omega (arith, c.in-Some.ensures.next.after, c.in-Some.ensures.within), (c.requires.0, c.in-Some.ensures.within))
 
-pub rules_from-returns-then-rules-at-eq0 : goal.rules_from-returns-then-rules-at-eq0
-rules_from-returns-then-rules-at-eq0 t c =
-    record {
-      finished = λ g old b n s h pl ag li late some past. let next = c.next_rule-r.ensures in let l = c.if-job-r.false in pops-first g old b n _ _ _ _ _ _ s h _ _ _ next l (sym (count-is g old b n _ _ _ _ _ _ s h _ l) ∙ c.if-rules-at-eq0.true) _ (joins g old b n _ _ _ _ _ _ s h _ c.args.union _ next l _ c.joined-passed.ensures) (c.rules_after.ensures.finished g old b n s h pl ag li (job_of g old b n _ _ _ _ _ _ s h _ c.args.union _ next l late) (joins-some g old b n _ _ _ _ _ _ s h _ c.args.union _ next l _ c.joined-passed.ensures) (past-pops g old b n _ _ _ _ _ _ s h _ c.args.union _ next l _ past (sym (count-is g old b n _ _ _ _ _ _ s h _ l) ∙ c.if-rules-at-eq0.true) _ (joins g old b n _ _ _ _ _ _ s h _ c.args.union _ next l _ c.joined-passed.ensures)));
-      table_len_unchanged = c.rules_after.ensures.table_len_unchanged;
-      memo_len_unchanged = c.rules_after.ensures.memo_len_unchanged;
-    }
+pub rules_from-returns-then-rules-at-eq0-clause-finished : goal.rules_from-returns-then-rules-at-eq0-clause-finished
+rules_from-returns-then-rules-at-eq0-clause-finished t c =
+    λ g old b n s h pl ag li late some past. let next = c.in-Some.ensures.next in let l = c.in-Some.ensures.within in pops-first g old b n _ _ _ _ _ _ s h _ _ _ next l (sym (count-is g old b n _ _ _ _ _ _ s h _ l) ∙ c.if-rules-at-eq0.true) _ (joins g old b n _ _ _ _ _ _ s h _ c.args.union _ next l _ c.joined-passed.ensures) (c.rules_after.ensures.finished g old b n s h pl ag li (job_of g old b n _ _ _ _ _ _ s h _ c.args.union _ next l late) (joins-some g old b n _ _ _ _ _ _ s h _ c.args.union _ next l _ c.joined-passed.ensures) (past-pops g old b n _ _ _ _ _ _ s h _ c.args.union _ next l _ past (sym (count-is g old b n _ _ _ _ _ _ s h _ l) ∙ c.if-rules-at-eq0.true) _ (joins g old b n _ _ _ _ _ _ s h _ c.args.union _ next l _ c.joined-passed.ensures)))
 
 pub rules_from-rules_by-requires : goal.rules_from-rules_by-requires
-rules_from-rules_by-requires t c = (omega (arith, c.next_rule-r.ensures.after, c.if-job-r.false), (c.requires.0, c.if-job-r.false))
+rules_from-rules_by-requires t c = (omega (arith, c.in-Some.ensures.next.after, c.in-Some.ensures.within), (c.requires.0, c.in-Some.ensures.within))
 
-pub rules_from-returns-then-is_listed : goal.rules_from-returns-then-is_listed
-rules_from-returns-then-is_listed t c =
-    record {
-      finished = λ g old b n s h pl ag li late some past. let listed = c.is_listed.ensures c.if-is_listed.true in listed-first g old b n _ _ _ _ _ _ s h _ c.args.union _ c.next_rule-r.ensures c.if-job-r.false _ _ li listed (c.rules_by.ensures.finished g old b n s h pl ag li (job_of g old b n _ _ _ _ _ _ s h _ c.args.union _ c.next_rule-r.ensures c.if-job-r.false late) listed);
-      table_len_unchanged = c.rules_by.ensures.table_len_unchanged;
-      memo_len_unchanged = c.rules_by.ensures.memo_len_unchanged;
-    }
+pub rules_from-returns-then-is_listed-clause-finished : goal.rules_from-returns-then-is_listed-clause-finished
+rules_from-returns-then-is_listed-clause-finished t c =
+    λ g old b n s h pl ag li late some past. let listed = c.is_listed.ensures c.if-is_listed.true in listed-first g old b n _ _ _ _ _ _ s h _ c.args.union _ c.in-Some.ensures.next c.in-Some.ensures.within _ _ li listed (c.rules_by.ensures.finished g old b n s h pl ag li (job_of g old b n _ _ _ _ _ _ s h _ c.args.union _ c.in-Some.ensures.next c.in-Some.ensures.within late) listed)
 
 pub rules_from-loop-i-init : goal.rules_from-loop-i-init
-rules_from-loop-i-init t c = (refl, refl, λ g old b n s h pl ag li late past. scan-from g old b n _ _ _ _ _ _ (begins-nothing g old _ _ _ _ c.args.union _ _ (to_is g old b n _ _ _ _ _ _ s h _ c.if-job-r.false) (above-is g old b n _ _ _ _ _ _ s h _ c.if-job-r.false)) _ _ _ s h _ (c.start_at-i.ensures.by_index _ (above-placed g old b n _ _ _ _ _ _ s h _ c.if-job-r.false _ pl)))
+rules_from-loop-i-init t c = (refl, refl, λ h. h, λ g old b n s h pl ag li late past. scan-from g old b n _ _ _ _ _ _ (begins-nothing g old _ _ _ _ c.args.union _ _ (to_is g old b n _ _ _ _ _ _ s h _ c.in-Some.ensures.within) (above-is g old b n _ _ _ _ _ _ s h _ c.in-Some.ensures.within)) _ _ _ s h _ (c.start_at-i.ensures.by_index _ (above-placed g old b n _ _ _ _ _ _ s h _ c.in-Some.ensures.within _ pl)))
 
-pub rules_from-runs_with-filled-requires : goal.rules_from-runs_with-filled-requires
-rules_from-runs_with-filled-requires t c = (omega (arith, c.next_rule-r.ensures.after, c.if-job-r.false), (c.requires.0, c.if-job-r.false, omega (arith, c.loop-i-test.true, c.end_at-end.ensures.upper_bound)))
+pub rules_from-runs_with-requires : goal.rules_from-runs_with-requires
+rules_from-runs_with-requires t c = (omega (arith, c.in-Some.ensures.next.after, c.in-Some.ensures.within), (c.requires.0, c.in-Some.ensures.within, omega (arith, c.loop-i-test.true, c.end_at-end.ensures.upper_bound)))
 
-pub rules_from-returns-then-table-filled : goal.rules_from-returns-then-table-filled
-rules_from-returns-then-table-filled t c =
-    record {
-      finished = λ g old b n s h pl ag li late some past. let l = c.if-job-r.false in writes-first g old b n _ _ _ _ _ _ s h _ _ _ c.next_rule-r.ensures l (λ z. c.if-rules-at-eq0.false (count-is g old b n _ _ _ _ _ _ s h _ l ∙ z)) (let k = c.loop-i.invariant.2 g old b n s h pl ag li late past in none-fits g old b n _ _ _ _ _ s _ _ _ _ (scan-next g old b n _ _ _ _ s _ _ _ _ k (omega (arith, c.loop-i-test.true, c.end_at-end.ensures.upper_bound)) _ _ _ (begun g old b n _ _ _ _ _ _ k.now k.entered _ _ _ (c.runs_with-filled.ensures.finished g old b n k.now k.entered pl ag li (job_of g old b n _ _ _ _ _ _ s h _ c.args.union _ c.next_rule-r.ensures c.if-job-r.false late) (λ some. let p = past-writes g old b n _ _ _ _ _ _ s h _ c.args.union _ c.next_rule-r.ensures c.if-job-r.false _ past (λ z. c.if-rules-at-eq0.false (count-is g old b n _ _ _ _ _ _ s h _ c.if-job-r.false ∙ z)) some in (p.0, k.kept _ p.1))))) c.if-table-filled.true);
-      table_len_unchanged = c.runs_with-filled.ensures.table_len_unchanged ∙ c.loop-i.invariant.0;
-      memo_len_unchanged = c.runs_with-filled.ensures.memo_len_unchanged ∙ c.loop-i.invariant.1;
-    }
+pub rules_from-returns-in_err-filled-clause-finished : goal.rules_from-returns-in_err-filled-clause-finished
+rules_from-returns-in_err-filled-clause-finished t c =
+    rw c.from_residual.ensures
+    (λ g old b n s h pl ag li late some past. let l = c.in-Some.ensures.within in writes-first g old b n _ _ _ _ _ _ s h _ _ _ c.in-Some.ensures.next l (λ z. c.if-rules-at-eq0.false (count-is g old b n _ _ _ _ _ _ s h _ l ∙ z)) (let k = c.loop-i.invariant.3 g old b n s h pl ag li late past in none-fits g old b n _ _ _ _ _ s _ _ _ _ (scan-next g old b n _ _ _ _ s _ _ _ _ k (omega (arith, c.loop-i-test.true, c.end_at-end.ensures.upper_bound)) _ _ _ (begun g old b n _ _ _ _ _ _ k.now k.entered _ _ _ (c.in_err-filled.ensures.finished g old b n k.now k.entered pl ag li (job_of g old b n _ _ _ _ _ _ s h _ c.args.union _ c.in-Some.ensures.next c.in-Some.ensures.within late) (λ some. let p = past-writes g old b n _ _ _ _ _ _ s h _ c.args.union _ c.in-Some.ensures.next c.in-Some.ensures.within _ past (λ z. c.if-rules-at-eq0.false (count-is g old b n _ _ _ _ _ _ s h _ c.in-Some.ensures.within ∙ z)) some in (p.0, k.kept _ p.1))))) refl))
 
 pub rules_from-loop-i-preserved : goal.rules_from-loop-i-preserved
-rules_from-loop-i-preserved t c = (c.runs_with-filled.ensures.table_len_unchanged ∙ c.loop-i.invariant.0, c.runs_with-filled.ensures.memo_len_unchanged ∙ c.loop-i.invariant.1, λ g old b n s h pl ag li late past. let k = c.loop-i.invariant.2 g old b n s h pl ag li late past in scan-next g old b n _ _ _ _ s _ _ _ _ k (omega (arith, c.loop-i-test.true, c.end_at-end.ensures.upper_bound)) _ _ _ (begun g old b n _ _ _ _ _ _ k.now k.entered _ _ _ (c.runs_with-filled.ensures.finished g old b n k.now k.entered pl ag li (job_of g old b n _ _ _ _ _ _ s h _ c.args.union _ c.next_rule-r.ensures c.if-job-r.false late) (λ some. let p = past-writes g old b n _ _ _ _ _ _ s h _ c.args.union _ c.next_rule-r.ensures c.if-job-r.false _ past (λ z. c.if-rules-at-eq0.false (count-is g old b n _ _ _ _ _ _ s h _ c.if-job-r.false ∙ z)) some in (p.0, k.kept _ p.1)))))
+rules_from-loop-i-preserved t c = (c.in_ok-filled.ensures.table_len_unchanged ∙ c.loop-i.invariant.0, c.in_ok-filled.ensures.memo_len_unchanged ∙ c.loop-i.invariant.1, λ h. omega (arith, c.loop-i.invariant.0, c.in_ok-filled.ensures.within (omega (arith, c.loop-i.invariant.0, c.loop-i.invariant.2 h))), λ g old b n s h pl ag li late past. let k = c.loop-i.invariant.3 g old b n s h pl ag li late past in scan-next g old b n _ _ _ _ s _ _ _ _ k (omega (arith, c.loop-i-test.true, c.end_at-end.ensures.upper_bound)) _ _ _ (begun g old b n _ _ _ _ _ _ k.now k.entered _ _ _ (c.in_ok-filled.ensures.finished g old b n k.now k.entered pl ag li (job_of g old b n _ _ _ _ _ _ s h _ c.args.union _ c.in-Some.ensures.next c.in-Some.ensures.within late) (λ some. let p = past-writes g old b n _ _ _ _ _ _ s h _ c.args.union _ c.in-Some.ensures.next c.in-Some.ensures.within _ past (λ z. c.if-rules-at-eq0.false (count-is g old b n _ _ _ _ _ _ s h _ c.in-Some.ensures.within ∙ z)) some in (p.0, k.kept _ p.1)))))
 
-pub rules_from-returns : goal.rules_from-returns
-rules_from-returns t c =
-    record {
-      finished = λ g old b n s h pl ag li late some past. let l = c.if-job-r.false in writes-first g old b n _ _ _ _ _ _ s h _ _ _ c.next_rule-r.ensures l (λ z. c.if-rules-at-eq0.false (count-is g old b n _ _ _ _ _ _ s h _ l ∙ z)) (scan-to g old b n _ _ _ _ _ _ (begins-nothing g old _ _ _ _ c.args.union _ _ (to_is g old b n _ _ _ _ _ _ s h _ c.if-job-r.false) (above-is g old b n _ _ _ _ _ _ s h _ c.if-job-r.false)) s _ _ _ _ (c.loop-i.invariant.2 g old b n s h pl ag li late past) _ (c.end_at-end.ensures.by_index _ (above-placed g old b n _ _ _ _ _ _ s h _ l _ pl)) c.loop-i-test.false);
-      table_len_unchanged = c.loop-i.invariant.0;
-      memo_len_unchanged = c.loop-i.invariant.1;
-    }
+pub rules_from-returns-clause-finished : goal.rules_from-returns-clause-finished
+rules_from-returns-clause-finished t c =
+    λ g old b n s h pl ag li late some past. let l = c.in-Some.ensures.within in writes-first g old b n _ _ _ _ _ _ s h _ _ _ c.in-Some.ensures.next l (λ z. c.if-rules-at-eq0.false (count-is g old b n _ _ _ _ _ _ s h _ l ∙ z)) (scan-to g old b n _ _ _ _ _ _ (begins-nothing g old _ _ _ _ c.args.union _ _ (to_is g old b n _ _ _ _ _ _ s h _ c.in-Some.ensures.within) (above-is g old b n _ _ _ _ _ _ s h _ c.in-Some.ensures.within)) s _ _ _ _ (c.loop-i.invariant.3 g old b n s h pl ag li late past) _ (c.end_at-end.ensures.by_index _ (above-placed g old b n _ _ _ _ _ _ s h _ l _ pl)) c.loop-i-test.false)
 
-pub runs_with-returns-then-state-rules : goal.runs_with-returns-then-state-rules
-runs_with-returns-then-state-rules t c =
-    record {
-      finished = λ g old b n s h pl ag li whole past. begins-none g old b n _ _ _ _ _ _ s h _ _ _ (other-state g old b n _ _ _ _ _ _ s h _ c.requires.2 _ c.at-entry.ensures _ _ (λ e. c.if-state-rules.true (c.state.ensures ∙ e ∙ sym (to_is g old b n _ _ _ _ _ _ s h _ c.requires.1))));
-      table_len_unchanged = refl;
-      memo_len_unchanged = refl;
-    }
+pub runs_with-returns-then-state-rules-clause-finished : goal.runs_with-returns-then-state-rules-clause-finished
+runs_with-returns-then-state-rules-clause-finished t c =
+    λ g old b n s h pl ag li whole past. begins-none g old b n _ _ _ _ _ _ s h _ _ _ (other-state g old b n _ _ _ _ _ _ s h _ c.requires.2 _ c.at-entry.ensures _ _ (λ e. c.if-state-rules.true (c.state.ensures ∙ e ∙ sym (to_is g old b n _ _ _ _ _ _ s h _ c.requires.1))))
 
-pub runs_with-returns-then-letter-rules : goal.runs_with-returns-then-letter-rules
-runs_with-returns-then-letter-rules t c =
-    record {
-      finished = λ g old b n s h pl ag li whole past. begins-none g old b n _ _ _ _ _ _ s h _ _ _ (other-letter g old b n _ _ _ _ _ _ s h _ c.requires.2 _ c.at-entry.ensures _ _ (λ e. c.if-letter-rules.true (c.letter.ensures ∙ e ∙ sym (above-is g old b n _ _ _ _ _ _ s h _ c.requires.1))));
-      table_len_unchanged = refl;
-      memo_len_unchanged = refl;
-    }
+pub runs_with-returns-then-letter-rules-clause-finished : goal.runs_with-returns-then-letter-rules-clause-finished
+runs_with-returns-then-letter-rules-clause-finished t c =
+    λ g old b n s h pl ag li whole past. begins-none g old b n _ _ _ _ _ _ s h _ _ _ (other-letter g old b n _ _ _ _ _ _ s h _ c.requires.2 _ c.at-entry.ensures _ _ (λ e. c.if-letter-rules.true (c.letter.ensures ∙ e ∙ sym (above-is g old b n _ _ _ _ _ _ s h _ c.requires.1))))
 
 pub runs_with-rules_after-requires : goal.runs_with-rules_after-requires
 runs_with-rules_after-requires t c = (omega (arith, c.requires.1), (c.requires.0, c.requires.1))
 
-pub runs_with-returns-then-rules-at-eq1 : goal.runs_with-returns-then-rules-at-eq1
-runs_with-returns-then-rules-at-eq1 t c =
-    record {
-      finished = λ g old b n s h pl ag li whole past. begins-one g old b n _ _ _ _ _ _ s h _ _ _ _ (set-of g old b n _ _ _ _ _ _ s h _ c.requires.2 _ c.at-entry.ensures) (same_head g old b n _ _ _ _ _ _ s h _ c.requires.2 _ c.at-entry.ensures _ _ (sym c.state.ensures ∙ c.if-state-rules.false ∙ to_is g old b n _ _ _ _ _ _ s h _ c.requires.1) (sym c.letter.ensures ∙ c.if-letter-rules.false ∙ above-is g old b n _ _ _ _ _ _ s h _ c.requires.1)) (sym (count-is g old b n _ _ _ _ _ _ s h _ c.requires.1) ∙ c.if-rules-at-eq1.true) (c.rules_after.ensures.finished g old b n s h pl ag li whole (union-adds g old b n _ _ _ _ _ _ s h _ c.requires.2 _ c.at-entry.ensures c.args.union) (past_one g old b n _ _ _ _ _ _ s h _ _ c.args.union _ past c.requires.2 _ c.at-entry.ensures c.still_late-still.result c.still_late-still.ensures (set-of g old b n _ _ _ _ _ _ s h _ c.requires.2 _ c.at-entry.ensures) (same_head g old b n _ _ _ _ _ _ s h _ c.requires.2 _ c.at-entry.ensures _ _ (sym c.state.ensures ∙ c.if-state-rules.false ∙ to_is g old b n _ _ _ _ _ _ s h _ c.requires.1) (sym c.letter.ensures ∙ c.if-letter-rules.false ∙ above-is g old b n _ _ _ _ _ _ s h _ c.requires.1)) (sym (count-is g old b n _ _ _ _ _ _ s h _ c.requires.1) ∙ c.if-rules-at-eq1.true)));
-      table_len_unchanged = c.rules_after.ensures.table_len_unchanged;
-      memo_len_unchanged = c.rules_after.ensures.memo_len_unchanged;
-    }
+pub runs_with-returns-then-rules-at-eq1-clause-finished : goal.runs_with-returns-then-rules-at-eq1-clause-finished
+runs_with-returns-then-rules-at-eq1-clause-finished t c =
+    λ g old b n s h pl ag li whole past. begins-one g old b n _ _ _ _ _ _ s h _ _ _ _ (set-of g old b n _ _ _ _ _ _ s h _ c.requires.2 _ c.at-entry.ensures) (same_head g old b n _ _ _ _ _ _ s h _ c.requires.2 _ c.at-entry.ensures _ _ (sym c.state.ensures ∙ c.if-state-rules.false ∙ to_is g old b n _ _ _ _ _ _ s h _ c.requires.1) (sym c.letter.ensures ∙ c.if-letter-rules.false ∙ above-is g old b n _ _ _ _ _ _ s h _ c.requires.1)) (sym (count-is g old b n _ _ _ _ _ _ s h _ c.requires.1) ∙ c.if-rules-at-eq1.true) (c.rules_after.ensures.finished g old b n s h pl ag li whole (union-adds g old b n _ _ _ _ _ _ s h _ c.requires.2 _ c.at-entry.ensures c.args.union) (past_one g old b n _ _ _ _ _ _ s h _ _ c.args.union _ past c.requires.2 _ c.at-entry.ensures c.still_late-still.result c.still_late-still.ensures (set-of g old b n _ _ _ _ _ _ s h _ c.requires.2 _ c.at-entry.ensures) (same_head g old b n _ _ _ _ _ _ s h _ c.requires.2 _ c.at-entry.ensures _ _ (sym c.state.ensures ∙ c.if-state-rules.false ∙ to_is g old b n _ _ _ _ _ _ s h _ c.requires.1) (sym c.letter.ensures ∙ c.if-letter-rules.false ∙ above-is g old b n _ _ _ _ _ _ s h _ c.requires.1)) (sym (count-is g old b n _ _ _ _ _ _ s h _ c.requires.1) ∙ c.if-rules-at-eq1.true)))
 
-pub runs_with-returns-then-is_blocked : goal.runs_with-returns-then-is_blocked
-runs_with-returns-then-is_blocked t c =
-    record {
-      finished = λ g old b n s h pl ag li whole past. begins-two g old b n _ _ _ _ _ _ s h _ _ _ _ (set-of g old b n _ _ _ _ _ _ s h _ c.requires.2 _ c.at-entry.ensures) (same_head g old b n _ _ _ _ _ _ s h _ c.requires.2 _ c.at-entry.ensures _ _ (sym c.state.ensures ∙ c.if-state-rules.false ∙ to_is g old b n _ _ _ _ _ _ s h _ c.requires.1) (sym c.letter.ensures ∙ c.if-letter-rules.false ∙ above-is g old b n _ _ _ _ _ _ s h _ c.requires.1)) (λ e. c.if-rules-at-eq1.false (count-is g old b n _ _ _ _ _ _ s h _ c.requires.1 ∙ e)) (blocked g old b n _ _ _ _ _ _ s h _ c.requires.1 _ pl _ _ (set_below g old b n _ _ _ _ _ _ s h _ c.requires.2 _ c.at-entry.ensures) (c.is_blocked.ensures.blocked c.if-is_blocked.true (omega (arith, set-adds g old b n _ _ _ _ _ _ s h _ c.requires.2 _ c.at-entry.ensures 0))));
-      table_len_unchanged = refl;
-      memo_len_unchanged = refl;
-    }
+pub runs_with-returns-then-is_blocked-clause-finished : goal.runs_with-returns-then-is_blocked-clause-finished
+runs_with-returns-then-is_blocked-clause-finished t c =
+    λ g old b n s h pl ag li whole past. begins-two g old b n _ _ _ _ _ _ s h _ _ _ _ (set-of g old b n _ _ _ _ _ _ s h _ c.requires.2 _ c.at-entry.ensures) (same_head g old b n _ _ _ _ _ _ s h _ c.requires.2 _ c.at-entry.ensures _ _ (sym c.state.ensures ∙ c.if-state-rules.false ∙ to_is g old b n _ _ _ _ _ _ s h _ c.requires.1) (sym c.letter.ensures ∙ c.if-letter-rules.false ∙ above-is g old b n _ _ _ _ _ _ s h _ c.requires.1)) (λ e. c.if-rules-at-eq1.false (count-is g old b n _ _ _ _ _ _ s h _ c.requires.1 ∙ e)) (blocked g old b n _ _ _ _ _ _ s h _ c.requires.1 _ pl _ _ (set_below g old b n _ _ _ _ _ _ s h _ c.requires.2 _ c.at-entry.ensures) (c.is_blocked.ensures.blocked c.if-is_blocked.true (omega (arith, set-adds g old b n _ _ _ _ _ _ s h _ c.requires.2 _ c.at-entry.ensures 0))))
 
-pub runs_with-returns-then-older_below-gt0 : goal.runs_with-returns-then-older_below-gt0
-runs_with-returns-then-older_below-gt0 t c =
-    record {
-      finished = λ g old b n s h pl ag li whole past. let known = c.older_below.ensures c.if-older_below-gt0.true in begins-two g old b n _ _ _ _ _ _ s h _ _ _ _ (set-of g old b n _ _ _ _ _ _ s h _ c.requires.2 _ c.at-entry.ensures) (same_head g old b n _ _ _ _ _ _ s h _ c.requires.2 _ c.at-entry.ensures _ _ (sym c.state.ensures ∙ c.if-state-rules.false ∙ to_is g old b n _ _ _ _ _ _ s h _ c.requires.1) (sym c.letter.ensures ∙ c.if-letter-rules.false ∙ above-is g old b n _ _ _ _ _ _ s h _ c.requires.1)) (λ e. c.if-rules-at-eq1.false (count-is g old b n _ _ _ _ _ _ s h _ c.requires.1 ∙ e)) (set-older g old b n _ _ _ _ _ _ s h c.args.fresh.now ag _ _ _ _ (past_two g old b n _ _ _ _ _ _ s h _ _ c.args.union _ past c.requires.2 _ c.at-entry.ensures c.still_late-still.result c.still_late-still.ensures (set-of g old b n _ _ _ _ _ _ s h _ c.requires.2 _ c.at-entry.ensures) (same_head g old b n _ _ _ _ _ _ s h _ c.requires.2 _ c.at-entry.ensures _ _ (sym c.state.ensures ∙ c.if-state-rules.false ∙ to_is g old b n _ _ _ _ _ _ s h _ c.requires.1) (sym c.letter.ensures ∙ c.if-letter-rules.false ∙ above-is g old b n _ _ _ _ _ _ s h _ c.requires.1)) (λ e. c.if-rules-at-eq1.false (count-is g old b n _ _ _ _ _ _ s h _ c.requires.1 ∙ e))) (omega (arith, known.0, c.if-older_below-gt0.true)) known.1 c.fresh_on.result (c.fresh_on.ensures ∙ ap (λ (a : ℕ). get_or c.args.fresh.now a 0) (below-is g old b n _ _ _ _ _ _ s h _ c.requires.1)) known.2);
-      table_len_unchanged = refl;
-      memo_len_unchanged = refl;
-    }
+pub runs_with-returns-then-older_below-gt0-clause-finished : goal.runs_with-returns-then-older_below-gt0-clause-finished
+runs_with-returns-then-older_below-gt0-clause-finished t c =
+    λ g old b n s h pl ag li whole past. let known = c.older_below.ensures c.if-older_below-gt0.true in begins-two g old b n _ _ _ _ _ _ s h _ _ _ _ (set-of g old b n _ _ _ _ _ _ s h _ c.requires.2 _ c.at-entry.ensures) (same_head g old b n _ _ _ _ _ _ s h _ c.requires.2 _ c.at-entry.ensures _ _ (sym c.state.ensures ∙ c.if-state-rules.false ∙ to_is g old b n _ _ _ _ _ _ s h _ c.requires.1) (sym c.letter.ensures ∙ c.if-letter-rules.false ∙ above-is g old b n _ _ _ _ _ _ s h _ c.requires.1)) (λ e. c.if-rules-at-eq1.false (count-is g old b n _ _ _ _ _ _ s h _ c.requires.1 ∙ e)) (set-older g old b n _ _ _ _ _ _ s h c.args.fresh.now ag _ _ _ _ (past_two g old b n _ _ _ _ _ _ s h _ _ c.args.union _ past c.requires.2 _ c.at-entry.ensures c.still_late-still.result c.still_late-still.ensures (set-of g old b n _ _ _ _ _ _ s h _ c.requires.2 _ c.at-entry.ensures) (same_head g old b n _ _ _ _ _ _ s h _ c.requires.2 _ c.at-entry.ensures _ _ (sym c.state.ensures ∙ c.if-state-rules.false ∙ to_is g old b n _ _ _ _ _ _ s h _ c.requires.1) (sym c.letter.ensures ∙ c.if-letter-rules.false ∙ above-is g old b n _ _ _ _ _ _ s h _ c.requires.1)) (λ e. c.if-rules-at-eq1.false (count-is g old b n _ _ _ _ _ _ s h _ c.requires.1 ∙ e))) (omega (arith, known.0, c.if-older_below-gt0.true)) known.1 c.fresh_on.result (c.fresh_on.ensures ∙ ap (λ (a : ℕ). get_or c.args.fresh.now a 0) (below-is g old b n _ _ _ _ _ _ s h _ c.requires.1)) known.2)
 
 pub runs_with-pass_states-requires : goal.runs_with-pass_states-requires
 runs_with-pass_states-requires t c = (omega (arith, c.requires.1), (c.requires.0, c.requires.1, c.is_blocked.ensures.set_nonzero c.if-is_blocked.false))
 
-pub runs_with-returns : goal.runs_with-returns
-runs_with-returns t c =
-    record {
-      finished = λ g old b n s h pl ag li whole past. begins-two g old b n _ _ _ _ _ _ s h _ _ _ _ (set-of g old b n _ _ _ _ _ _ s h _ c.requires.2 _ c.at-entry.ensures) (same_head g old b n _ _ _ _ _ _ s h _ c.requires.2 _ c.at-entry.ensures _ _ (sym c.state.ensures ∙ c.if-state-rules.false ∙ to_is g old b n _ _ _ _ _ _ s h _ c.requires.1) (sym c.letter.ensures ∙ c.if-letter-rules.false ∙ above-is g old b n _ _ _ _ _ _ s h _ c.requires.1)) (λ e. c.if-rules-at-eq1.false (count-is g old b n _ _ _ _ _ _ s h _ c.requires.1 ∙ e)) (c.pass_states.ensures.finished g old b n s h pl ag li whole (set_below g old b n _ _ _ _ _ _ s h _ c.requires.2 _ c.at-entry.ensures) (past_two g old b n _ _ _ _ _ _ s h _ _ c.args.union _ past c.requires.2 _ c.at-entry.ensures c.still_late-still.result c.still_late-still.ensures (set-of g old b n _ _ _ _ _ _ s h _ c.requires.2 _ c.at-entry.ensures) (same_head g old b n _ _ _ _ _ _ s h _ c.requires.2 _ c.at-entry.ensures _ _ (sym c.state.ensures ∙ c.if-state-rules.false ∙ to_is g old b n _ _ _ _ _ _ s h _ c.requires.1) (sym c.letter.ensures ∙ c.if-letter-rules.false ∙ above-is g old b n _ _ _ _ _ _ s h _ c.requires.1)) (λ e. c.if-rules-at-eq1.false (count-is g old b n _ _ _ _ _ _ s h _ c.requires.1 ∙ e))));
-      table_len_unchanged = c.pass_states.ensures.table_len_unchanged;
-      memo_len_unchanged = c.pass_states.ensures.memo_len_unchanged;
-    }
+pub runs_with-returns-clause-finished : goal.runs_with-returns-clause-finished
+runs_with-returns-clause-finished t c =
+    λ g old b n s h pl ag li whole past. begins-two g old b n _ _ _ _ _ _ s h _ _ _ _ (set-of g old b n _ _ _ _ _ _ s h _ c.requires.2 _ c.at-entry.ensures) (same_head g old b n _ _ _ _ _ _ s h _ c.requires.2 _ c.at-entry.ensures _ _ (sym c.state.ensures ∙ c.if-state-rules.false ∙ to_is g old b n _ _ _ _ _ _ s h _ c.requires.1) (sym c.letter.ensures ∙ c.if-letter-rules.false ∙ above-is g old b n _ _ _ _ _ _ s h _ c.requires.1)) (λ e. c.if-rules-at-eq1.false (count-is g old b n _ _ _ _ _ _ s h _ c.requires.1 ∙ e)) (c.pass_states.ensures.finished g old b n s h pl ag li whole (set_below g old b n _ _ _ _ _ _ s h _ c.requires.2 _ c.at-entry.ensures) (past_two g old b n _ _ _ _ _ _ s h _ _ c.args.union _ past c.requires.2 _ c.at-entry.ensures c.still_late-still.result c.still_late-still.ensures (set-of g old b n _ _ _ _ _ _ s h _ c.requires.2 _ c.at-entry.ensures) (same_head g old b n _ _ _ _ _ _ s h _ c.requires.2 _ c.at-entry.ensures _ _ (sym c.state.ensures ∙ c.if-state-rules.false ∙ to_is g old b n _ _ _ _ _ _ s h _ c.requires.1) (sym c.letter.ensures ∙ c.if-letter-rules.false ∙ above-is g old b n _ _ _ _ _ _ s h _ c.requires.1)) (λ e. c.if-rules-at-eq1.false (count-is g old b n _ _ _ _ _ _ s h _ c.requires.1 ∙ e))))

@@ -9,7 +9,7 @@ use Rattle.saturation.proofs.linking.link_rule.Goals as goal
 pub returns-then-control-state : goal.returns-then-control-state
 returns-then-control-state c =
     record {
-      linked_from = λ from. linked-beyond _ _ _ _ _ _ _ c.requires.4 (omega (arith, c.requires.1, c.requires.4, c.requires.6)) from _ c.next_rule.ensures (λ l m. omega (arith, l, c.if-control-state.true, c.number_of-state.ensures.0));
+      linked_from = λ from. linked-beyond _ _ _ _ _ _ _ c.requires.4 (omega (arith, c.requires.1, c.requires.4, c.requires.6)) from c.unwrap_or.result (rw c.unwrap_or.ensures c.next_rule.ensures.next) (λ l m. omega (arith, l, c.if-control-state.true, c.number_of-state.ensures.0));
       firsts_len_unchanged = refl;
       nexts_len_unchanged = search rules;
     }
@@ -17,7 +17,7 @@ returns-then-control-state c =
 pub returns-then-letters-letter : goal.returns-then-letters-letter
 returns-then-letters-letter c =
     record {
-      linked_from = λ from. linked-beyond _ _ _ _ _ _ _ c.requires.4 (omega (arith, c.requires.1, c.requires.4, c.requires.6)) from _ c.next_rule-then-letters-letter.ensures (λ l m. omega (arith, m, c.if-letters-letter.true, c.number_of-letter.ensures.0));
+      linked_from = λ from. linked-beyond _ _ _ _ _ _ _ c.requires.4 (omega (arith, c.requires.1, c.requires.4, c.requires.6)) from c.unwrap_or-then-letters-letter.result (rw c.unwrap_or-then-letters-letter.ensures c.next_rule-then-letters-letter.ensures.next) (λ l m. omega (arith, m, c.if-letters-letter.true, c.number_of-letter.ensures.0));
       firsts_len_unchanged = refl;
       nexts_len_unchanged = search rules;
     }

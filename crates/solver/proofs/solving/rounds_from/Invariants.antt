@@ -14,8 +14,8 @@ use Rattle.solver.proofs.solving.rounds_from.Given as goal
 -- (`Taken`). The work area is the copy from which the next round is taken, so a round sees the old one alone. The measure is how
 -- many rounds may still be taken.
 -- Assumes what the contract requires and what `take_wide` promises.
-abbrev pub invariant-loop-count : goal.invariant-loop-count
-invariant-loop-count l = (l.i ≤ max_rounds) × (length l.table ≡ length l.initial.table) × (length l.work ≡ length l.initial.work) × (l.count * 3 ≤ length l.table) × ((g : PushdownGame) (n : ℕ) → Held g l.sizes l.rules → Good g → Stored n l.initial.table l.first (round_zero g) → Taken g n l.i l.table l.count)
+abbrev pub invariant-loop-sizes : goal.invariant-loop-sizes
+invariant-loop-sizes l = (l.i ≤ max_rounds) × (length l.table ≡ length l.initial.table) × (length l.work ≡ length l.initial.work) × (l.count * 3 ≤ length l.table) × ((g : PushdownGame) (n : ℕ) → Held g l.sizes l.rules → Good g → Stored n l.initial.table l.first (round_zero g) → Taken g n l.i l.table l.count)
 
-abbrev pub decreases-loop-count : goal.decreases-loop-count
-decreases-loop-count l = max_rounds - l.i
+abbrev pub decreases-loop-sizes : goal.decreases-loop-sizes
+decreases-loop-sizes l = max_rounds - l.i

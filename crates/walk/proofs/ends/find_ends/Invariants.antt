@@ -1,6 +1,6 @@
 -- The rule by itself is a job of one rule as Éloise's are, in the game where every state is hers, and nothing is listed for it; its
 -- runs are taken as those of any rule are. Assumes what the contract requires.
-use Prim.Native.Nat.{ℕ}
+use Prim.Native.Nat.{ℕ, ◌*◌, ◌≤◌}
 use mathlib.Core.Path.{◌≡◌}
 use mathlib.Core.List.{List}
 use lib.ListN.{length}
@@ -15,4 +15,4 @@ use Rattle.enumeration.specs.TakingLaws.{Scanning}
 use Rattle.walk.proofs.ends.find_ends.Given as goal
 
 abbrev pub invariant-loop-i : goal.invariant-loop-i
-invariant-loop-i l = (length l.sets ≡ length l.initial.sets) × (length l.memo ≡ length l.initial.memo) × ((g : PushdownGame) (old : List Entry) (birthdate n : ℕ) (s : Growing) → Entered g old birthdate n l.alone l.rules l.work l.initial.sets l.initial.count l.initial.memo s → Placing g l.work l.alone.count l.places → Aging g old birthdate l.alone l.fresh → Whole g l.alone l.r → Scanning g old birthdate n l.alone l.rules l.work (begin_of g old l.alone.state l.alone.letter l.alone.end l.r 0) s l.i l.sets l.count l.memo)
+invariant-loop-i l = (length l.sets ≡ length l.initial.sets) × (length l.memo ≡ length l.initial.memo) × (l.count * 3 ≤ length l.initial.sets) × ((g : PushdownGame) (old : List Entry) (birthdate n : ℕ) (s : Growing) → Entered g old birthdate n l.alone l.rules l.work l.initial.sets l.initial.count l.initial.memo s → Placing g l.work l.alone.count l.places → Aging g old birthdate l.alone l.fresh → Whole g l.alone l.r → Scanning g old birthdate n l.alone l.rules l.work (begin_of g old l.alone.state l.alone.letter l.alone.end l.r 0) s l.i l.sets l.count l.memo)

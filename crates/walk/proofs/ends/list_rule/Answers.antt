@@ -18,30 +18,30 @@ returns-then-rules-r-ne2 c =
       spans_len_unchanged = refl;
     }
 
-pub find_ends-count-requires : goal.find_ends-count-requires
-find_ends-count-requires c = (c.requires.0, c.requires.1)
+pub find_ends-found-requires : goal.find_ends-found-requires
+find_ends-found-requires c = (c.requires.0, c.requires.1)
 
-pub returns-then-count-gt-ENDS : goal.returns-then-count-gt-ENDS
-returns-then-count-gt-ENDS c =
+pub returns-in_default : goal.returns-in_default
+returns-in_default c =
     record {
       listed = λ g old b stands pl ag hit zs zm bd li. li;
-      upper_bound = (c.requires.5, λ bd. bd, λ z. zeroed _ _ (c.fill-then-count-gt-ENDS.ensures.after (λ y e. e)), λ z. zeroed _ _ (c.fill.ensures.after (λ y e. e)));
-      sets_len_unchanged = c.fill-then-count-gt-ENDS.ensures.len ∙ c.find_ends-count.ensures.sets_len_unchanged;
-      memo_len_unchanged = c.fill.ensures.len ∙ c.find_ends-count.ensures.memo_len_unchanged;
+      upper_bound = (c.requires.5, λ bd. bd, λ z. zeroed _ _ (c.fill-in_default.ensures.after (λ y e. e)), λ z. zeroed _ _ (c.fill.ensures.after (λ y e. e)));
+      sets_len_unchanged = c.fill-in_default.ensures.len ∙ c.find_ends-found.ensures.sets_len_unchanged;
+      memo_len_unchanged = c.fill.ensures.len ∙ c.find_ends-found.ensures.memo_len_unchanged;
       lists_len_unchanged = refl;
       spans_len_unchanged = refl;
     }
 
 pub keep_list-after-requires : goal.keep_list-after-requires
-keep_list-after-requires c = (omega (arith, c.if-count-gt-ENDS.false, c.find_ends-count.ensures.sets_len_unchanged, c.requires.2), omega (arith, c.requires.0.few, c.requires.1), omega (arith, c.requires.3, c.requires.5), c.requires.4)
+keep_list-after-requires c = (omega (arith, c.in-Some.ensures.within, c.find_ends-found.ensures.sets_len_unchanged), omega (arith, c.requires.0.few, c.requires.1), omega (arith, c.requires.3, c.requires.5), c.requires.4)
 
 pub returns : goal.returns
 returns c =
     record {
-      listed = λ g old b stands pl ag hit zs zm bd li. let f = found _ _ b _ _ 1024 _ _ (c.find_ends-count.ensures.filled g old b 1024 stands pl ag hit c.if-rules-r-ne2.false (zero-stored 1024 _ c.requires.2 zs) (λ k. zm (k * 3))) c.if-count-gt-ENDS.false in listed_more g old _ _ _ _ _ _ _ _ _ li bd (omega (arith, c.requires.4, c.requires.0.few, c.requires.1)) 1024 f.entries f.stored f.are f.every c.keep_list-after.ensures;
+      listed = λ g old b stands pl ag hit zs zm bd li. let f = found _ _ b _ _ 1024 _ _ (c.in-Some.ensures.filled g old b 1024 stands pl ag hit c.if-rules-r-ne2.false (zero-stored 1024 _ c.requires.2 zs) (λ k. zm (k * 3))) (omega (arith, c.in-Some.ensures.within, c.requires.2)) in listed_more g old _ _ _ _ _ _ _ _ _ li bd (omega (arith, c.requires.4, c.requires.0.few, c.requires.1)) 1024 f.entries f.stored f.are f.every c.keep_list-after.ensures;
       upper_bound = (omega (arith, c.keep_list-after.ensures.within, c.requires.3), λ bd. bounded-more _ _ _ _ _ _ _ _ _ bd (omega (arith, c.requires.4, c.requires.0.few, c.requires.1)) c.keep_list-after.ensures, λ z. zeroed _ _ (c.fill-2.ensures.after (λ y e. e)), λ z. zeroed _ _ (c.fill.ensures.after (λ y e. e)));
-      sets_len_unchanged = c.fill-2.ensures.len ∙ c.find_ends-count.ensures.sets_len_unchanged;
-      memo_len_unchanged = c.fill.ensures.len ∙ c.find_ends-count.ensures.memo_len_unchanged;
+      sets_len_unchanged = c.fill-2.ensures.len ∙ c.find_ends-found.ensures.sets_len_unchanged;
+      memo_len_unchanged = c.fill.ensures.len ∙ c.find_ends-found.ensures.memo_len_unchanged;
       lists_len_unchanged = c.keep_list-after.ensures.long;
       spans_len_unchanged = c.keep_list-after.ensures.wide;
     }

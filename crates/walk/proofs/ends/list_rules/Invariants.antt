@@ -5,6 +5,7 @@ use mathlib.Core.Path.{◌≡◌}
 use mathlib.Core.Bool.{true}
 use mathlib.Core.List.{List}
 use lib.ListN.{length}
+use Rattle.std.specs.Prelude.{unwrap_or, IfSome}
 use Rattle.game.specs.Game.{PushdownGame, of_head}
 use Rattle.game.specs.Stored.{rule_at}
 use Rattle.table.specs.Table.{Entry}
@@ -14,8 +15,8 @@ use Rattle.enumeration.specs.Places.{Placing}
 use Rattle.enumeration.specs.Lists.{Listed, Zero, Bounded}
 use Rattle.walk.proofs.ends.list_rules.Given as goal
 
-abbrev pub invariant-loop-r : goal.invariant-loop-r
-invariant-loop-r l = (length l.lists ≡ length l.initial.lists) × (length l.spans ≡ length l.initial.spans) × (length l.sets ≡ 3072) × (length l.memo ≡ 3072) × (l.room ≤ 4096) × (l.r ≤ l.job.end) × (l.r < l.job.end → of_head l.job.state l.job.letter (rule_at l.rules (l.r * 6) 0) ≡ true) × Zero l.sets × Zero l.memo × Bounded l.spans l.room × ((g : PushdownGame) (old : List Entry) (birthdate : ℕ) → Stands g old birthdate l.job l.rules l.work → Placing g l.work l.job.count l.places → Aging g old birthdate l.job l.fresh → Listed g old l.lists l.spans)
+abbrev pub invariant-loop-next : goal.invariant-loop-next
+invariant-loop-next l = (length l.lists ≡ length l.initial.lists) × (length l.spans ≡ length l.initial.spans) × (length l.sets ≡ 3072) × (length l.memo ≡ 3072) × (l.room ≤ 4096) × IfSome l.next (λ r. (r < l.job.end) × (of_head l.job.state l.job.letter (rule_at l.rules (r * 6) 0) ≡ true)) × Zero l.sets × Zero l.memo × Bounded l.spans l.room × ((g : PushdownGame) (old : List Entry) (birthdate : ℕ) → Stands g old birthdate l.job l.rules l.work → Placing g l.work l.job.count l.places → Aging g old birthdate l.job l.fresh → Listed g old l.lists l.spans)
 
-abbrev pub decreases-loop-r : goal.decreases-loop-r
-decreases-loop-r l = l.job.end - l.r
+abbrev pub decreases-loop-next : goal.decreases-loop-next
+decreases-loop-next l = l.job.end - unwrap_or l.next l.job.end

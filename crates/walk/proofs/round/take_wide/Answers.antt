@@ -8,9 +8,6 @@ use Rattle.walk.proofs.round.take_wide.Goals as goal
 pub add_runs-requires : goal.add_runs-requires
 add_runs-requires c = (c.requires.0, c.requires.1, c.requires.2, c.requires.3, refl, refl, zero-at 512)
 
-pub returns : goal.returns
-returns c =
-    record {
-      filled = λ g es n held good ranged work table past. c.add_runs.ensures.filled g es n held good ranged work table past c.late_of-late.ensures (c.set_fresh.ensures.marked refl) (heads-placed g _ _ held good _ _ _ (c.set_places.ensures.placed_to refl c.requires.0.states (letters-few g _ _ held good))) (zeros-blank 24576);
-      table_len_unchanged = c.add_runs.ensures.table_len_unchanged;
-    }
+pub returns-clause-filled : goal.returns-clause-filled
+returns-clause-filled c =
+    λ g es n held good ranged work table past. c.add_runs.ensures.filled g es n held good ranged work table past c.late_of-late.ensures (c.set_fresh.ensures.marked refl) (heads-placed g _ _ held good _ _ _ (c.set_places.ensures.placed_to refl c.requires.0.states (letters-few g _ _ held good))) (zeros-blank 24576)
