@@ -10,6 +10,9 @@ use lib.ListN.{length, get_or, set, length-set}
 use lib.Seq.{get_or-set_same, get_or-set_other}
 use lib.Bits.{bit_and, bit_or, bit_xor}
 use lib.Dec.{eqb}
+use borrow.Author.Rules.{rules}
+use borrow.Rule.Slice.PartMut.{put_mid}
+use Rattle.std.proofs.lemmas.List.{places}
 use borrow.Author.Tests.{eqb-true, eqb-false}
 use Rattle.game.specs.Sets.{has}
 use Rattle.game.specs.SetLaws.{none_has, single-has, has-single}
@@ -111,6 +114,18 @@ module _ (old : List ℕ) (to n : ℕ) (new : ℕ → ℕ) (words : List ℕ) (i
     walked-else place x away =
         ap (λ (v : ℕ). has v (x % 64))
         (⊎_elim (λ u. w.under (place + x / 64) u) (λ o. w.over (place + x / 64) (omega (arith, w.within, o))) away)
+
+-- a part written whole
+pub walk-part : (old : List ℕ) (to n k : ℕ) (new : ℕ → ℕ) (part : List ℕ) → to + n ≤ length old → k ≡ n → length part ≡ n
+    → ((j : ℕ) → j < n → get_or part j 0 ≡ new j) → Walked old to n new (put_mid to k old part) n
+walk-part old to n k new part room same long is =
+    record {
+      long = search (rules, places);
+      within = omega arith;
+      done = λ j l. search (rules, places, is j l);
+      under = λ j l. search (rules, places);
+      over = λ j l. search (rules, places);
+    }
 
 -- a family of one word is written at once
 walk-one : (old : List ℕ) (to n : ℕ) (new : ℕ → ℕ) (v : ℕ) → n ≡ 1 → to + n ≤ length old → v ≡ new 0

@@ -19,14 +19,7 @@ pub fn is_empty_at(words: &[u64], at: usize, n: usize) -> bool
     if n == 1 {
         return words[at] == 0;
     }
-    let mut i = 0;
-    while i < n {
-        if words[at + i] != 0 {
-            return false;
-        }
-        i += 1;
-    }
-    true
+    words[at..at + n].iter().all(|word| *word == 0)
 }
 
 // Set x put into the family at a place.
@@ -61,11 +54,7 @@ pub fn clear_at(words: &mut [u64], at: usize, n: usize)
         words[at + 3] = 0;
         return;
     }
-    let mut i = 0;
-    while i < n {
-        words[at + i] = 0;
-        i += 1;
-    }
+    words[at..at + n].fill(0);
 }
 
 // The family at a place of `others` written over that at a place of `words`.
@@ -90,11 +79,7 @@ pub fn copy_at(words: &mut [u64], to: usize, others: &[u64], at: usize, n: usize
         words[to + 3] = others[at + 3];
         return;
     }
-    let mut i = 0;
-    while i < n {
-        words[to + i] = others[at + i];
-        i += 1;
-    }
+    words[to..to + n].copy_from_slice(&others[at..at + n]);
 }
 
 // Its sets put into the family at a place of `words`.
@@ -107,10 +92,8 @@ pub fn join_at(words: &mut [u64], to: usize, others: &[u64], at: usize, n: usize
         words[to] = words[to] | others[at];
         return;
     }
-    let mut i = 0;
-    while i < n {
+    for i in 0..n {
         words[to + i] = words[to + i] | others[at + i];
-        i += 1;
     }
 }
 
@@ -120,10 +103,8 @@ pub fn remove_at(words: &mut [u64], to: usize, others: &[u64], at: usize, n: usi
     ensures without { Without words.old to n others.now at words.new }
     ensures words_len_unchanged { length words.new ≡ length words.old }
 {
-    let mut i = 0;
-    while i < n {
+    for i in 0..n {
         words[to + i] = words[to + i] ^ (words[to + i] & others[at + i]);
-        i += 1;
     }
 }
 
@@ -141,12 +122,10 @@ pub fn take_in(all: &mut [u64], new: &mut [u64], to: usize, d: &[u64], n: usize)
         all[to] = all[to] | v;
         return;
     }
-    let mut t = 0;
-    while t < n {
+    for t in 0..n {
         let v = d[t] ^ (d[t] & all[to + t]);
         new[to + t] = v;
         all[to + t] = all[to + t] | v;
-        t += 1;
     }
 }
 
@@ -163,12 +142,10 @@ pub fn take_more(all: &mut [u64], to: usize, d: &[u64], n: usize) -> bool
         return v != 0;
     }
     let mut any = 0u64;
-    let mut t = 0;
-    while t < n {
+    for t in 0..n {
         let v = d[t] ^ (d[t] & all[to + t]);
         any = any | v;
         all[to + t] = all[to + t] | v;
-        t += 1;
     }
     any != 0
 }

@@ -23,13 +23,11 @@ pub fn unite_into(
         out[0] = out[0] | unite_by(raising, a[at], b[bt]);
         return;
     }
-    let mut i = 0;
-    while i < n {
+    for i in 0..n {
         let word = b[bt + i];
         if word != 0 {
             unite_with(out, a, at, word, i, raising, n);
         }
-        i += 1;
     }
 }
 

@@ -89,8 +89,7 @@ fn close_rows(
     ensures { RowsClosed control letters control numbers.now n all.old new.old added.old fresh.old alive.old news.old gains.old
         all.new new.new added.new fresh.new alive.new news.new gains.new }
 {
-    let mut p = 0;
-    while p < control {
+    for p in 0..control {
         let gained = gains[p];
         let before = news[p];
         let base = p * letters;
@@ -100,7 +99,6 @@ fn close_rows(
         );
         news[p] = gained;
         gains[p] = 0;
-        p += 1;
     }
 }
 
@@ -116,11 +114,9 @@ fn clear_rows(
     requires { (states ≤ 32) × (letters ≤ 64) × (states * letters ≤ 2048) × (n ≤ 16) × (states * letters * n ≤ length new.old) × (length news.old ≡ 32) }
     ensures { RowsCleared control letters n new.old news.old new.new news.new }
 {
-    let mut q = control;
-    while q < states {
+    for q in control..states {
         clear_row(q * letters, letters, news[q], n, new);
         news[q] = 0;
-        q += 1;
     }
 }
 

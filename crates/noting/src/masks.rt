@@ -32,11 +32,9 @@ pub fn set_masks(
     ensures fresh_len_unchanged { length fresh.new ≡ length fresh.old }
     ensures alive_len_unchanged { length alive.new ≡ length alive.old }
 {
-    let mut c = 0;
-    while c < letters {
+    for c in 0..letters {
         fresh[c] = mark(count, states, letters, heads, n, new, c);
         alive[c] = mark(count, states, letters, heads, n, all, c);
-        c += 1;
     }
 }
 
@@ -56,13 +54,11 @@ fn mark(
     ensures upper_bound { result < 1024 }
 {
     let mut set = 0usize;
-    let mut k = 0;
-    while k < count {
+    for k in 0..count {
         let head = number_of(states[k]) * letters + c;
         if !is_empty_at(words, head * n, n) {
             set = set | (1usize << k);
         }
-        k += 1;
     }
     set
 }
@@ -72,9 +68,7 @@ pub fn fill(list: &mut [usize], number: usize)
     ensures by_index { (i : ℕ) → i < length list.old → get_or list.new i 0 ≡ number }
     ensures list_len_unchanged { length list.new ≡ length list.old }
 {
-    let mut i = 0;
-    while i < list.len() {
+    for i in 0..list.len() {
         list[i] = number;
-        i += 1;
     }
 }

@@ -14,10 +14,8 @@ pub fn mark_rules(rules: &[u8], count: usize, readers: &mut [u64])
     ensures reads { Reads rules.now count readers.new }
     ensures readers_len_unchanged { length readers.new ≡ length readers.old }
 {
-    let mut r = 0;
-    while r < count {
+    for r in 0..count {
         mark_rule(rules, r, readers);
-        r += 1;
     }
 }
 
@@ -75,10 +73,8 @@ fn find_first(states: usize, news: &[u64], readers: &[u64], active: &mut [u64])
     ensures first_to { FirstTo states news.now readers.now active.old active.new }
     ensures active_len_unchanged { length active.new ≡ length active.old }
 {
-    let mut q = 0;
-    while q < states {
+    for q in 0..states {
         find_started(news[q], q * 4, readers, active);
-        q += 1;
     }
 }
 
@@ -116,10 +112,8 @@ fn put_common(active: &mut [u64], some: &[u64], readers: &[u64], at: usize)
     ensures met { Met active.old some.now readers.now at active.new }
     ensures active_len_unchanged { length active.new ≡ length active.old }
 {
-    let mut w = 0;
-    while w < 4 {
+    for w in 0..4 {
         active[w] = active[w] | (some[w] & readers[at + w]);
-        w += 1;
     }
 }
 

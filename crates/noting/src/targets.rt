@@ -41,8 +41,7 @@ pub fn note_targets(
     if size < targetcount {
         return size + 1;
     }
-    let mut t = 0;
-    while t < targetcount {
+    for t in 0..targetcount {
         let at = t * Game::TARGET_STRIDE;
         let head = head_at(targets[at], targets[at + 1], letters, heads);
         if heads <= head {
@@ -56,7 +55,6 @@ pub fn note_targets(
         put_at(new, head * n, x);
         mark(news, targets[at] as usize, targets[at + 1] as usize);
         put_entry(log, t * 3, targets[at] + 256 * targets[at + 1], x as u32, 0);
-        t += 1;
     }
     targetcount
 }

@@ -52,8 +52,7 @@ pub fn take_heads(
     ensures log_len_unchanged { length log.new ≡ length log.old }
 {
     let mut entries = count;
-    let mut p = 0;
-    while p < control {
+    for p in 0..control {
         entries = take_row(
             abelard, p, stirred[p], letters, rulecount, n, ends, firsts, nexts, raising, all,
             added, gains, log, entries, size, birthdate,
@@ -61,7 +60,6 @@ pub fn take_heads(
         if size < entries {
             return entries;
         }
-        p += 1;
     }
     entries
 }

@@ -67,8 +67,7 @@ pub fn take_rules(
     ensures log_len_unchanged { length log.new ≡ length log.old }
 {
     let mut counts = before;
-    let mut w = 0;
-    while w < 4 {
+    for w in 0..4 {
         counts = take_word(
             active[w],
             w * 64,
@@ -100,7 +99,6 @@ pub fn take_rules(
         if size < counts.entries {
             return counts;
         }
-        w += 1;
     }
     counts
 }

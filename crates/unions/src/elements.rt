@@ -40,10 +40,8 @@ fn target_states(targets: &[u32], count: usize) -> u32
     ensures { Gathered (target_set targets.now) count result }
 {
     let mut set = 0u32;
-    let mut t = 0;
-    while t < count {
+    for t in 0..count {
         set = set | targets[t * Game::TARGET_STRIDE + 2];
-        t += 1;
     }
     set
 }
@@ -54,11 +52,9 @@ fn pop_states(rules: &[u8], count: usize) -> u32
     ensures { Gathered (pop_set_at rules.now) count result }
 {
     let mut set = 0u32;
-    let mut r = 0;
-    while r < count {
+    for r in 0..count {
         let at = r * Game::RULE_STRIDE;
         set = set | pop_set(rules[at + 2], rules[at + 3]);
-        r += 1;
     }
     set
 }

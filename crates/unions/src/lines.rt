@@ -277,12 +277,10 @@ pub fn renew_lines(
     ensures all_len_unchanged { length all.new ≡ length all.old }
     ensures len_unchanged { length new.new ≡ length new.old }
 {
-    let mut k = 0;
-    while k < count {
+    for k in 0..count {
         renew_line(
             k, states, letters, heads, n, all, new, keys, rests, fresh, raising,
         );
-        k += 1;
     }
 }
 

@@ -1,8 +1,8 @@
 use borrow.Author.Rules.{rules}
 use native.Mathlib.Omega.{arith}
-use mathlib.Core.Path.{refl}
+use mathlib.Core.Path.{refl, ◌∙◌}
 use lib.ListN.{length-set}
-use Rattle.family.proofs.Areas.{walk-starts, walk-on, cleared-all, cleared-one, cleared-two, cleared-four}
+use Rattle.family.proofs.Areas.{walk-part, none, cleared-all, cleared-one, cleared-two, cleared-four}
 use Rattle.family.proofs.area.clear_at.Goals as goal
 
 pub offset_bounds-words-at : goal.offset_bounds-words-at
@@ -80,33 +80,10 @@ returns-then-n-eq4 c =
       words_len_unchanged = search rules;
     }
 
-pub loop-i-init : goal.loop-i-init
-loop-i-init c = walk-starts _ _ _ _
-
-pub overflow_add-words-in-loop-i : goal.overflow_add-words-in-loop-i
-overflow_add-words-in-loop-i c = omega arith
-
-pub offset_bounds-words-at-in-loop-i : goal.offset_bounds-words-at-in-loop-i
-offset_bounds-words-at-in-loop-i c = omega arith
-
-pub bounds-words-at-in-loop-i : goal.bounds-words-at-in-loop-i
-bounds-words-at-in-loop-i c = omega (arith, c.loop-i.invariant.long, c.requires, c.loop-i-test.true)
-
-pub overflow_add-i : goal.overflow_add-i
-overflow_add-i c = omega arith
-
-pub loop-i-smaller : goal.loop-i-smaller
-loop-i-smaller c = omega arith
-
-pub loop-i-preserved : goal.loop-i-preserved
-loop-i-preserved c = walk-on _ _ _ _ _ _ c.loop-i.invariant c.requires c.loop-i-test.true _ refl
-
-pub shape_of-words : goal.shape_of-words
-shape_of-words c = c.loop-i.invariant.long
-
 pub returns : goal.returns
 returns c =
+    let part = c.fill.ensures.after (λ y h. h) in
     record {
-      cleared = cleared-all _ _ _ _ _ c.loop-i.invariant c.loop-i-test.false;
-      words_len_unchanged = c.loop-i.invariant.long;
+      cleared = cleared-all _ _ _ _ _ (walk-part _ _ _ _ none _ c.requires (omega arith) (c.fill.ensures.len ∙ search rules) (λ j l. rw part (search rules))) (omega arith);
+      words_len_unchanged = search rules;
     }

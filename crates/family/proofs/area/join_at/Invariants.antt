@@ -6,6 +6,3 @@ use Rattle.family.proofs.area.join_at.Given as goal
 -- What falls is the number of words left. Assumes what the contract requires.
 abbrev pub invariant-loop-i : goal.invariant-loop-i
 invariant-loop-i l = Walked l.initial.words l.to l.n (joined l.initial.words l.to l.others l.at) l.words l.i
-
-abbrev pub decreases-loop-i : goal.decreases-loop-i
-decreases-loop-i l = l.n - l.i

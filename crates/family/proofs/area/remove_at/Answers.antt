@@ -42,12 +42,6 @@ offset_bounds-words-to-in-loop-i-2 c = omega arith
 pub bounds-words-to-in-loop-i-2 : goal.bounds-words-to-in-loop-i-2
 bounds-words-to-in-loop-i-2 c = omega arith
 
-pub overflow_add-i : goal.overflow_add-i
-overflow_add-i c = omega arith
-
-pub loop-i-smaller : goal.loop-i-smaller
-loop-i-smaller c = omega arith
-
 pub loop-i-preserved : goal.loop-i-preserved
 loop-i-preserved c = walk-on _ _ _ _ _ _ c.loop-i.invariant c.requires.0 c.loop-i-test.true _ (rw (walk_here _ _ _ _ _ _ c.loop-i.invariant) refl)
 

@@ -93,12 +93,6 @@ offset_bounds-all-to-in-loop-t-3 c = omega (arith, c.requires, c.loop-t-test.tru
 pub bounds-all-to-in-loop-t-3 : goal.bounds-all-to-in-loop-t-3
 bounds-all-to-in-loop-t-3 c = omega (arith, c.requires, c.loop-t.invariant.0.long, c.loop-t-test.true)
 
-pub overflow_add-t : goal.overflow_add-t
-overflow_add-t c = omega (arith, c.requires, c.loop-t-test.true)
-
-pub loop-t-smaller : goal.loop-t-smaller
-loop-t-smaller c = omega (arith, c.loop-t-test.true)
-
 pub loop-t-preserved : goal.loop-t-preserved
 loop-t-preserved c = (
   walk-on _ _ _ _ _ _ c.loop-t.invariant.0 c.requires.0 c.loop-t-test.true _ (rw (walk_here _ _ _ _ _ _ c.loop-t.invariant.0) refl),

@@ -7,6 +7,3 @@ use Rattle.family.proofs.area.take_in.Given as goal
 -- What falls is the number of words left. Assumes what the contract requires.
 abbrev pub invariant-loop-t : goal.invariant-loop-t
 invariant-loop-t l = Walked l.initial.all l.to l.n (grown l.d l.initial.all l.to) l.all l.t × Walked l.initial.new l.to l.n (fresh l.d l.initial.all l.to) l.new l.t
-
-abbrev pub decreases-loop-t : goal.decreases-loop-t
-decreases-loop-t l = l.n - l.t

@@ -51,12 +51,6 @@ bounds-b-bt-in-loop-i c = omega (arith, c.requires, c.loop-i-test.true)
 pub unite_with-requires : goal.unite_with-requires
 unite_with-requires c = (omega (arith, c.requires.0, c.loop-i.invariant.0), c.requires.1, c.loop-i-test.true, c.requires.3, c.requires.4)
 
-pub overflow_add-i : goal.overflow_add-i
-overflow_add-i c = omega (arith, c.requires.4, c.loop-i-test.true)
-
-pub loop-i-smaller : goal.loop-i-smaller
-loop-i-smaller c = omega (arith, c.loop-i-test.true)
-
 pub loop-i-preserved : goal.loop-i-preserved
 loop-i-preserved c =
     elim c.if-word-ne0.branch [

@@ -9,6 +9,3 @@ use Rattle.family.proofs.uniting.unite_into.Given as goal
 -- Assumes what the contract requires.
 abbrev pub invariant-loop-i : goal.invariant-loop-i
 invariant-loop-i l = (length l.out ≡ length l.initial.out) × (l.i ≤ l.n) × (Raising l.raising → Adding l.n l.a l.at l.b l.bt l.initial.out l.out l.i)
-
-abbrev pub decreases-loop-i : goal.decreases-loop-i
-decreases-loop-i l = l.n - l.i

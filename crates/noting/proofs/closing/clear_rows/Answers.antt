@@ -24,12 +24,6 @@ offset_bounds-news-q-in-loop-q c = omega (arith, c.loop-q-test.true, c.requires.
 pub bounds-news-q-in-loop-q : goal.bounds-news-q-in-loop-q
 bounds-news-q-in-loop-q c = omega (arith, c.loop-q-test.true, c.requires.0, c.requires.5, c.loop-q.invariant.cleared.tidings)
 
-pub overflow_add-q : goal.overflow_add-q
-overflow_add-q c = omega (arith, c.loop-q-test.true, c.requires.0)
-
-pub loop-q-smaller : goal.loop-q-smaller
-loop-q-smaller c = omega (arith, c.loop-q-test.true)
-
 pub loop-q-preserved : goal.loop-q-preserved
 loop-q-preserved c = clearing-on _ _ c.loop-q.invariant c.clear_row.ensures
 

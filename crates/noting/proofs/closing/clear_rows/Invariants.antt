@@ -6,6 +6,3 @@ use Rattle.noting.proofs.closing.clear_rows.Given as goal
 abbrev pub invariant-loop-q : goal.invariant-loop-q
 invariant-loop-q l =
     Clearing l.control l.letters l.n l.initial.new l.initial.news l.q l.new l.news
-
-abbrev pub decreases-loop-q : goal.decreases-loop-q
-decreases-loop-q l = l.states - l.q

@@ -45,12 +45,6 @@ offset_bounds-gains-p-in-loop-p c = omega (arith, c.loop-p-test.true, c.requires
 pub bounds-gains-p-in-loop-p : goal.bounds-gains-p-in-loop-p
 bounds-gains-p-in-loop-p c = omega (arith, c.loop-p-test.true, c.requires.0, c.requires.9, c.loop-p.invariant.gainers)
 
-pub overflow_add-p : goal.overflow_add-p
-overflow_add-p c = omega (arith, c.loop-p-test.true, c.requires.0)
-
-pub loop-p-smaller : goal.loop-p-smaller
-loop-p-smaller c = omega (arith, c.loop-p-test.true)
-
 pub loop-p-preserved : goal.loop-p-preserved
 loop-p-preserved c = rows_on c.loop-p.invariant c.loop-p-test.true (omega (arith, c.loop-p-test.true, c.requires.0, c.requires.8, c.loop-p.invariant.tidings)) (omega (arith, c.loop-p-test.true, c.requires.0, c.requires.9, c.loop-p.invariant.gainers)) _ _ _ _ _ _ c.clear_row.ensures c.close_row.ensures
 

@@ -6,6 +6,3 @@ use Rattle.noting.proofs.closing.close_rows.Given as goal
 abbrev pub invariant-loop-p : goal.invariant-loop-p
 invariant-loop-p l =
     RowsClosed l.control l.letters l.p l.numbers l.n l.initial.all l.initial.new l.initial.added l.initial.fresh l.initial.alive l.initial.news l.initial.gains l.all l.new l.added l.fresh l.alive l.news l.gains
-
-abbrev pub decreases-loop-p : goal.decreases-loop-p
-decreases-loop-p l = l.control - l.p

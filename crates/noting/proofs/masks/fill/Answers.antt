@@ -7,12 +7,6 @@ use Rattle.noting.proofs.masks.fill.Goals as goal
 pub loop-i-init : goal.loop-i-init
 loop-i-init c = record { long = refl; done = λ k l. absurd (omega arith) }
 
-pub overflow_add-i : goal.overflow_add-i
-overflow_add-i c = omega (arith, c.loop-i-test.true, c.well_formed)
-
-pub loop-i-smaller : goal.loop-i-smaller
-loop-i-smaller c = omega (arith, c.loop-i-test.true, c.loop-i.invariant.long)
-
 pub loop-i-preserved : goal.loop-i-preserved
 loop-i-preserved c = filling-on _ _ _ _ c.loop-i.invariant c.loop-i-test.true (length-set c.loop-i.list c.loop-i.i c.args.number)
 

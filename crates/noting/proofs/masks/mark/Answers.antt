@@ -25,12 +25,6 @@ is_empty_at-requires c = head-place _ _ _ _ _ c.number_of.ensures.0 (c.requires.
 pub overflow_shl-set : goal.overflow_shl-set
 overflow_shl-set c = omega (arith, c.loop-k-test.true, c.requires.1)
 
-pub overflow_add-k : goal.overflow_add-k
-overflow_add-k c = omega (arith, c.loop-k-test.true, c.requires.1)
-
-pub loop-k-smaller : goal.loop-k-smaller
-loop-k-smaller c = omega (arith, c.loop-k-test.true)
-
 pub loop-k-preserved : goal.loop-k-preserved
 loop-k-preserved c =
     elim c.if-not-is_empty_at.branch [

@@ -6,6 +6,3 @@ use Rattle.noting.proofs.masks.mark.Given as goal
 abbrev pub invariant-loop-k : goal.invariant-loop-k
 invariant-loop-k l =
     Marks l.n l.letters l.states l.words l.c l.count l.k l.set
-
-abbrev pub decreases-loop-k : goal.decreases-loop-k
-decreases-loop-k l = l.count - l.k

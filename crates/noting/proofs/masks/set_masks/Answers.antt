@@ -23,12 +23,6 @@ offset_bounds-alive-c c = omega (arith, c.loop-c-test.true, c.requires.7)
 pub bounds-alive-c : goal.bounds-alive-c
 bounds-alive-c c = omega (arith, c.loop-c-test.true, c.requires.7, c.requires.9, c.loop-c.invariant.lives)
 
-pub overflow_add-c : goal.overflow_add-c
-overflow_add-c c = omega (arith, c.loop-c-test.true, c.requires.7)
-
-pub loop-c-smaller : goal.loop-c-smaller
-loop-c-smaller c = omega (arith, c.loop-c-test.true)
-
 pub loop-c-preserved : goal.loop-c-preserved
 loop-c-preserved c = marking-on _ _ _ _ _ _ _ _ _ _ _ c.loop-c.invariant c.loop-c-test.true (omega (arith, c.loop-c-test.true, c.requires.7, c.requires.8, c.loop-c.invariant.news)) (omega (arith, c.loop-c-test.true, c.requires.7, c.requires.9, c.loop-c.invariant.lives)) _ _ c.mark.ensures.marked c.mark-in-loop-c.ensures.marked c.mark-in-loop-c.ensures.upper_bound
 

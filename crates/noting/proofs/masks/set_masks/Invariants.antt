@@ -6,6 +6,3 @@ use Rattle.noting.proofs.masks.set_masks.Given as goal
 abbrev pub invariant-loop-c : goal.invariant-loop-c
 invariant-loop-c l =
     Marking l.count l.states l.letters l.n l.all l.new l.initial.fresh l.initial.alive l.fresh l.alive l.c
-
-abbrev pub decreases-loop-c : goal.decreases-loop-c
-decreases-loop-c l = l.letters - l.c

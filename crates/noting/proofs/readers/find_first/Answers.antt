@@ -18,12 +18,6 @@ overflow_mul-q c = omega (arith, c.requires.0, c.loop-q-test.true)
 pub find_started-requires : goal.find_started-requires
 find_started-requires c = (omega (arith, c.requires.0, c.loop-q-test.true), c.requires.2, c.loop-q.invariant.2 ∙ c.requires.3)
 
-pub overflow_add-q : goal.overflow_add-q
-overflow_add-q c = omega (arith, c.requires.0, c.loop-q-test.true)
-
-pub loop-q-smaller : goal.loop-q-smaller
-loop-q-smaller c = omega (arith, c.loop-q-test.true)
-
 pub loop-q-preserved : goal.loop-q-preserved
 loop-q-preserved c = (first_on _ _ _ _ _ _ c.loop-q.invariant.0 c.find_started.ensures.started, omega (arith, c.loop-q-test.true), c.find_started.ensures.active_len_unchanged ∙ c.loop-q.invariant.2)
 

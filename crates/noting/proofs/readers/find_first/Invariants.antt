@@ -7,6 +7,3 @@ use Rattle.noting.proofs.readers.find_first.Given as goal
 -- The states below q are done (`FirstTo`). What falls is how many are left. Assumes what the contract requires.
 abbrev pub invariant-loop-q : goal.invariant-loop-q
 invariant-loop-q l = FirstTo l.q l.news l.readers l.initial.active l.active × (l.q ≤ l.states) × (length l.active ≡ length l.initial.active)
-
-abbrev pub decreases-loop-q : goal.decreases-loop-q
-decreases-loop-q l = l.states - l.q

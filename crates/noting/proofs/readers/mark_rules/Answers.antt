@@ -9,12 +9,6 @@ loop-r-init c = (reads_none _ _, omega arith, refl)
 pub mark_rule-requires : goal.mark_rule-requires
 mark_rule-requires c = (omega (arith, c.requires.0, c.loop-r-test.true), c.loop-r.invariant.2 ∙ c.requires.2, readable _ _ _ c.requires.1 c.requires.3 c.loop-r-test.true)
 
-pub overflow_add-r : goal.overflow_add-r
-overflow_add-r c = omega (arith, c.requires.0, c.loop-r-test.true)
-
-pub loop-r-smaller : goal.loop-r-smaller
-loop-r-smaller c = omega (arith, c.loop-r-test.true)
-
 pub loop-r-preserved : goal.loop-r-preserved
 loop-r-preserved c = (reads_on _ _ _ _ c.loop-r.invariant.0 c.mark_rule.ensures.marked, omega (arith, c.loop-r-test.true), c.mark_rule.ensures.readers_len_unchanged ∙ c.loop-r.invariant.2)
 

@@ -7,6 +7,3 @@ use Rattle.noting.proofs.readers.mark_rules.Given as goal
 -- The rules below r are marked (`Reads`). What falls is how many are left. Assumes what the contract requires.
 abbrev pub invariant-loop-r : goal.invariant-loop-r
 invariant-loop-r l = Reads l.rules l.r l.readers × (l.r ≤ l.count) × (length l.readers ≡ length l.initial.readers)
-
-abbrev pub decreases-loop-r : goal.decreases-loop-r
-decreases-loop-r l = l.count - l.r

@@ -32,12 +32,6 @@ offset_bounds-active-w-in-loop-w c = omega (arith, c.loop-w-test.true)
 pub bounds-active-w-in-loop-w : goal.bounds-active-w-in-loop-w
 bounds-active-w-in-loop-w c = omega (arith, c.requires.3, c.loop-w.invariant.long, c.loop-w-test.true)
 
-pub overflow_add-w : goal.overflow_add-w
-overflow_add-w c = omega (arith, c.loop-w-test.true)
-
-pub loop-w-smaller : goal.loop-w-smaller
-loop-w-smaller c = omega (arith, c.loop-w-test.true)
-
 pub loop-w-preserved : goal.loop-w-preserved
 loop-w-preserved c = meeting-on _ _ _ _ _ _ c.loop-w.invariant c.requires.3 c.loop-w-test.true
 

@@ -173,12 +173,6 @@ overflow_cast-x c = omega (arith, c.element_set-x.ensures.upper_bound)
 pub put_entry-requires : goal.put_entry-requires
 put_entry-requires c = omega (arith, c.loop-t-test.true, c.if-size-targetcount.false, c.requires.0, c.loop-t.invariant.same)
 
-pub overflow_add-t : goal.overflow_add-t
-overflow_add-t c = omega (arith, c.loop-t-test.true, c.requires.2)
-
-pub loop-t-smaller : goal.loop-t-smaller
-loop-t-smaller c = omega (arith, c.loop-t-test.true)
-
 pub loop-t-preserved : goal.loop-t-preserved
 loop-t-preserved c = record { below = omega (arith, c.loop-t-test.true); areas = c.put_at.ensures.words_len_unchanged ∙ c.loop-t.invariant.areas; newer = c.put_at-in-loop-t.ensures.words_len_unchanged ∙ c.loop-t.invariant.newer; same = c.put_entry.ensures.table_len_unchanged ∙ c.loop-t.invariant.same; tidings = c.mark.ensures.words_len_unchanged ∙ c.loop-t.invariant.tidings; begun = λ g el k. starting-begun _ _ _ _ _ _ _ _ c.args.log.now c.args.news.now _ c.loop-t-test.true g el k _ c.element_set-x.ensures.upper_bound_2 _ c.head_at-head.ensures.value _ _ _ _ _ _ _ _ (omega (arith, c.loop-t-test.true, c.if-size-targetcount.false, c.requires.0, c.loop-t.invariant.same)) c.put_at.ensures.put c.put_at-in-loop-t.ensures.put c.put_entry.ensures.table_after c.mark.ensures.by_index (c.loop-t.invariant.begun g el k) }
 

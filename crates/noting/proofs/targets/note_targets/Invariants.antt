@@ -6,6 +6,3 @@ use Rattle.noting.proofs.targets.note_targets.Given as goal
 abbrev pub invariant-loop-t : goal.invariant-loop-t
 invariant-loop-t l =
     Starting l.targets l.numbers l.letters l.heads l.n l.targetcount l.initial.all l.initial.new l.initial.log l.initial.news l.log l.all l.new l.news l.t
-
-abbrev pub decreases-loop-t : goal.decreases-loop-t
-decreases-loop-t l = l.targetcount - l.t

@@ -35,12 +35,6 @@ returns-then-size-entries c =
       log_len_unchanged = c.take_row-entries.ensures.log_len_unchanged ∙ c.loop-p.invariant.logs;
     }
 
-pub overflow_add-p : goal.overflow_add-p
-overflow_add-p c = omega (arith, c.loop-p-test.true, c.requires.4)
-
-pub loop-p-smaller : goal.loop-p-smaller
-loop-p-smaller c = omega (arith, c.loop-p-test.true)
-
 pub loop-p-preserved : goal.loop-p-preserved
 loop-p-preserved c = going_on _ _ _ _ _ _ _ _ _ _ _ _ _ _ _ _ _ c.loop-p.invariant c.loop-p-test.true c.take_row-entries.ensures.by_index c.if-size-entries.false c.take_row-entries.ensures.added_len_unchanged c.take_row-entries.ensures.gains_len_unchanged c.take_row-entries.ensures.log_len_unchanged
 

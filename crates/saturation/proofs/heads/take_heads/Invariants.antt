@@ -7,7 +7,3 @@ use Rattle.saturation.proofs.heads.take_heads.Given as goal
 abbrev pub invariant-loop-p : goal.invariant-loop-p
 invariant-loop-p l =
     Going l.abelard l.control l.letters l.rulecount l.n l.ends l.stirred l.firsts l.nexts l.raising l.all l.initial.added l.initial.gains l.initial.log l.count l.size l.birthdate l.added l.gains l.log l.entries l.p
-
-abbrev pub decreases-loop-p : goal.decreases-loop-p
-decreases-loop-p l =
-    l.control - l.p

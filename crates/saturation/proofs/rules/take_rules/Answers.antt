@@ -61,12 +61,6 @@ returns-then-size-counts c =
       log_len_unchanged = c.take_word-counts.ensures.log_len_unchanged ∙ c.loop-w.invariant.kept.logs;
     }
 
-pub overflow_add-w : goal.overflow_add-w
-overflow_add-w c = omega (arith, c.loop-w-test.true)
-
-pub loop-w-smaller : goal.loop-w-smaller
-loop-w-smaller c = omega (arith, c.loop-w-test.true)
-
 pub loop-w-preserved : goal.loop-w-preserved
 loop-w-preserved c = wording-on c.loop-w.invariant c.take_word-counts.ensures.by_index c.loop-w-test.true (omega (arith, c.if-size-counts.false)) c.take_word-counts.ensures.entries_bound.1 c.take_word-counts.ensures.all_len_unchanged c.take_word-counts.ensures.keys_len_unchanged c.take_word-counts.ensures.rests_len_unchanged c.take_word-counts.ensures.hints_len_unchanged c.take_word-counts.ensures.ends_len_unchanged c.take_word-counts.ensures.stirred_len_unchanged c.take_word-counts.ensures.gains_len_unchanged c.take_word-counts.ensures.added_len_unchanged c.take_word-counts.ensures.log_len_unchanged
 

@@ -23,12 +23,6 @@ bounds-rules-at-in-loop-r c = omega (arith, c.requires, c.loop-r-test.true)
 pub pop_set-set-requires : goal.pop_set-set-requires
 pop_set-set-requires c = tt
 
-pub overflow_add-r : goal.overflow_add-r
-overflow_add-r c = omega (arith, c.loop-r-test.true)
-
-pub loop-r-smaller : goal.loop-r-smaller
-loop-r-smaller c = omega (arith, c.loop-r-test.true)
-
 pub loop-r-preserved : goal.loop-r-preserved
 loop-r-preserved c = (omega (arith, c.loop-r-test.true), gathered-on _ _ _ _ c.loop-r.invariant.1 c.pop_set-set.ensures)
 

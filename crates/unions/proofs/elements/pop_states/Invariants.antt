@@ -6,6 +6,3 @@ use Rattle.unions.proofs.elements.pop_states.Given as goal
 -- Assumes what the contract requires.
 abbrev pub invariant-loop-r : goal.invariant-loop-r
 invariant-loop-r l = (l.r ≤ l.count) × Gathered (pop_set_at l.rules) l.r l.set
-
-abbrev pub decreases-loop-r : goal.decreases-loop-r
-decreases-loop-r l = l.count - l.r

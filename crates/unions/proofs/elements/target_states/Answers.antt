@@ -18,12 +18,6 @@ offset_bounds-targets-t c = omega (arith, c.requires, c.loop-t-test.true)
 pub bounds-targets-t : goal.bounds-targets-t
 bounds-targets-t c = omega (arith, c.requires, c.loop-t-test.true)
 
-pub overflow_add-t : goal.overflow_add-t
-overflow_add-t c = omega (arith, c.loop-t-test.true)
-
-pub loop-t-smaller : goal.loop-t-smaller
-loop-t-smaller c = omega (arith, c.loop-t-test.true)
-
 pub loop-t-preserved : goal.loop-t-preserved
 loop-t-preserved c = (omega (arith, c.loop-t-test.true), gathered-on _ _ _ _ c.loop-t.invariant.1 refl)
 

@@ -6,6 +6,3 @@ use Rattle.unions.proofs.elements.target_states.Given as goal
 -- Assumes what the contract requires.
 abbrev pub invariant-loop-t : goal.invariant-loop-t
 invariant-loop-t l = (l.t ≤ l.count) × Gathered (target_set l.targets) l.t l.set
-
-abbrev pub decreases-loop-t : goal.decreases-loop-t
-decreases-loop-t l = l.count - l.t

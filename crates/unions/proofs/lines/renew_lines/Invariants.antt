@@ -6,6 +6,3 @@ use Rattle.unions.proofs.lines.renew_lines.Given as goal
 abbrev pub invariant-loop-k : goal.invariant-loop-k
 invariant-loop-k l =
     Renewed l.letters l.heads l.n l.states l.raising l.initial.all l.initial.new l.keys l.rests l.fresh l.count l.all l.new l.k
-
-abbrev pub decreases-loop-k : goal.decreases-loop-k
-decreases-loop-k l = l.count - l.k
