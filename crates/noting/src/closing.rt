@@ -14,7 +14,6 @@ ghost use Rattle.unions.specs.Ending.{Masked};
 ghost use Rattle.noting.specs.Closing.{Ready};
 ghost use Rattle.noting.specs.ClosingRows.{Thinned, RowClosed, RowsClosed, RowsCleared};
 
-use crate::masks::fill;
 use family::{clear_at, copy_at, join_at};
 use unions::lowest_set;
 
@@ -153,7 +152,7 @@ pub fn close_heads(
     ensures news_len_unchanged { length news.new ≡ length news.old }
     ensures gains_len_unchanged { length gains.new ≡ length gains.old }
 {
-    fill(fresh, 0);
+    fresh.fill(0);
     close_rows(
         control, letters, numbers, n, all, new, added, fresh, alive, news, gains,
     );

@@ -13,7 +13,7 @@ mod signs;
 mod targets;
 
 pub use closing::close_heads;
-pub use masks::{fill, set_masks};
+pub use masks::set_masks;
 pub use offers::give;
 pub use readers::{find_active, mark_rules};
 pub use signs::keep_more;

@@ -62,13 +62,3 @@ fn mark(
     }
     set
 }
-
-// Every number of a list set to one.
-pub fn fill(list: &mut [usize], number: usize)
-    ensures by_index { (i : ℕ) → i < length list.old → get_or list.new i 0 ≡ number }
-    ensures list_len_unchanged { length list.new ≡ length list.old }
-{
-    for i in 0..list.len() {
-        list[i] = number;
-    }
-}

@@ -73,11 +73,9 @@ pub fn offer(
     ensures log_len_unchanged { length log.new ≡ length log.old }
 {
     let mut entries = count;
-    let mut j = 0;
-    while j < n {
+    for j in 0..n {
         let given = d[at + j];
         if given == 0 {
-            j += 1;
             continue;
         }
         let word = unseen(given, all[head * n + j], added[head * n + j]);
@@ -88,7 +86,6 @@ pub fn offer(
             }
             added[head * n + j] = added[head * n + j] | word;
         }
-        j += 1;
     }
     entries
 }

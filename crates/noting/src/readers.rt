@@ -123,13 +123,10 @@ fn find_second(letters: usize, fresh: &[usize], readers: &[u64], held: &[u64], a
     ensures second_to { SecondTo letters fresh.now readers.now held.now active.old active.new }
     ensures active_len_unchanged { length active.new ≡ length active.old }
 {
-    let mut c = 0;
-    while c < letters {
+    for c in 0..letters {
         if fresh[c] == 0 {
-            c += 1;
             continue;
         }
         put_common(active, held, readers, 384 + c * 4);
-        c += 1;
     }
 }

@@ -3,7 +3,6 @@ ghost use Rattle.std.specs.Prelude.{◌≡◌, ℕ, ◌+◌, ◌*◌, ◌<◌, �
 ghost use Rattle.saturation.specs.RuleLinks.{Linked, LinkedFrom, Climbs};
 
 use game::Game;
-use noting::fill;
 use rounds::next_rule;
 use unions::number_of;
 
@@ -22,10 +21,8 @@ pub fn link(
     ensures firsts_len_unchanged { length firsts.new ≡ length firsts.old }
     ensures nexts_len_unchanged { length nexts.new ≡ length nexts.old }
 {
-    fill(firsts, count);
-    let mut r = count;
-    while 0 < r {
-        r -= 1;
+    firsts.fill(count);
+    for r in (0..count).rev() {
         link_rule(rules, count, letters, control, r, firsts, nexts);
     }
 }

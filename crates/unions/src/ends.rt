@@ -171,12 +171,10 @@ fn add_runs(
 {
     let at = head * n;
     let mut lines = count;
-    let mut j = 0;
-    while j < n {
+    for j in 0..n {
         let old = all[at + j];
         let young = new[at + j];
         if (old | young) == 0 {
-            j += 1;
             continue;
         }
         let word = picked(old, young, j, still, alive, raising);
@@ -196,7 +194,6 @@ fn add_runs(
             hints,
             raising,
         );
-        j += 1;
     }
     lines
 }

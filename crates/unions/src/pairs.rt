@@ -33,14 +33,10 @@ fn sets_at(words: &[u64], at: usize, n: usize) -> u64
     requires { (n ≤ 16) × (at + n ≤ length words.now) × (at ≤ 1048576) }
 {
     let mut sum = 0u64;
-    let mut i = 0;
-    while i < n {
-        let word = words[at + i];
-        i += 1;
-        if word == 0 {
-            continue;
+    for word in &words[at..at + n] {
+        if *word != 0 {
+            sum += sets_in(*word);
         }
-        sum = sum + sets_in(word);
     }
     sum
 }

@@ -18,12 +18,6 @@ offset_bounds-d-at c = omega (arith, c.requires.3, c.requires.5, c.loop-j-test.t
 pub bounds-d-at : goal.bounds-d-at
 bounds-d-at c = omega (arith, c.requires.4, c.loop-j-test.true)
 
-pub overflow_add-j : goal.overflow_add-j
-overflow_add-j c = omega (arith, c.requires.3, c.loop-j-test.true)
-
-pub loop-j-smaller-then-given-eq0 : goal.loop-j-smaller-then-given-eq0
-loop-j-smaller-then-given-eq0 c = omega (arith, c.loop-j-test.true)
-
 pub loop-j-preserved-then-given-eq0 : goal.loop-j-preserved-then-given-eq0
 loop-j-preserved-then-given-eq0 c = giving-skips _ _ _ _ _ _ _ _ _ _ _ _ _ _ _ c.loop-j.invariant c.loop-j-test.true (omega (arith, c.requires.8, c.loop-j.invariant.areas)) c.if-given-eq0.true
 
@@ -95,12 +89,6 @@ offset_bounds-added-head-then-word-ne0-2 c = omega (arith, place-small c.args.he
 
 pub bounds-added-head-then-word-ne0-2 : goal.bounds-added-head-then-word-ne0-2
 bounds-added-head-then-word-ne0-2 c = omega (arith, c.requires.8, c.loop-j-test.true, c.loop-j.invariant.areas)
-
-pub overflow_add-j-in-loop-j : goal.overflow_add-j-in-loop-j
-overflow_add-j-in-loop-j c = omega (arith, c.requires.3, c.loop-j-test.true)
-
-pub loop-j-smaller : goal.loop-j-smaller
-loop-j-smaller c = omega (arith, c.loop-j-test.true)
 
 pub loop-j-preserved : goal.loop-j-preserved
 loop-j-preserved c =

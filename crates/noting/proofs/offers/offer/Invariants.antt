@@ -7,6 +7,3 @@ use Rattle.noting.proofs.offers.offer.Given as goal
 abbrev pub invariant-loop-j : goal.invariant-loop-j
 invariant-loop-j l =
     Giving l.at l.head l.n l.size l.first l.rule l.d l.all l.initial.log l.initial.added l.count l.log l.added l.entries l.j
-
-abbrev pub decreases-loop-j : goal.decreases-loop-j
-decreases-loop-j l = l.n - l.j

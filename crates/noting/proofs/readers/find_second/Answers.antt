@@ -12,12 +12,6 @@ offset_bounds-fresh-c c = omega (arith, c.requires.0, c.loop-c-test.true)
 pub bounds-fresh-c : goal.bounds-fresh-c
 bounds-fresh-c c = omega (arith, c.requires.0, c.requires.1, c.loop-c-test.true)
 
-pub overflow_add-c : goal.overflow_add-c
-overflow_add-c c = omega (arith, c.requires.0, c.loop-c-test.true)
-
-pub loop-c-smaller-then-fresh-c-eq0 : goal.loop-c-smaller-then-fresh-c-eq0
-loop-c-smaller-then-fresh-c-eq0 c = omega (arith, c.loop-c-test.true)
-
 pub loop-c-preserved-then-fresh-c-eq0 : goal.loop-c-preserved-then-fresh-c-eq0
 loop-c-preserved-then-fresh-c-eq0 c = (second-skip _ _ _ _ _ _ c.loop-c.invariant.0 c.if-fresh-c-eq0.true, omega (arith, c.loop-c-test.true), c.loop-c.invariant.2)
 
@@ -29,12 +23,6 @@ overflow_add-c-in-loop-c c = omega (arith, c.requires.0, c.loop-c-test.true)
 
 pub put_common-requires : goal.put_common-requires
 put_common-requires c = (omega (arith, c.requires.0, c.loop-c-test.true), c.requires.2, c.requires.3, c.loop-c.invariant.2 ∙ c.requires.4)
-
-pub overflow_add-c-in-loop-c-2 : goal.overflow_add-c-in-loop-c-2
-overflow_add-c-in-loop-c-2 c = omega (arith, c.requires.0, c.loop-c-test.true)
-
-pub loop-c-smaller : goal.loop-c-smaller
-loop-c-smaller c = omega (arith, c.loop-c-test.true)
 
 pub loop-c-preserved : goal.loop-c-preserved
 loop-c-preserved c = (second-on _ _ _ _ _ _ c.loop-c.invariant.0 _ c.put_common.ensures.met, omega (arith, c.loop-c-test.true), c.put_common.ensures.active_len_unchanged ∙ c.loop-c.invariant.2)

@@ -8,6 +8,3 @@ use Rattle.saturation.proofs.linking.link.Given as goal
 abbrev pub invariant-loop-r : goal.invariant-loop-r
 invariant-loop-r l =
     LinkedFrom l.rules l.count l.letters l.control l.firsts l.nexts l.r × (l.r < suc l.count) × (length l.firsts ≡ length l.initial.firsts) × (length l.nexts ≡ length l.initial.nexts)
-
-abbrev pub decreases-loop-r : goal.decreases-loop-r
-decreases-loop-r l = l.r

@@ -29,12 +29,6 @@ offset_bounds-new-at c = (let few = c.requires.0.few in omega (arith, place-smal
 pub bounds-new-at : goal.bounds-new-at
 bounds-new-at c = omega (arith, within-area _ _ _ _ _ _ _ _ c.requires.0 c.args.head 0 (omega (arith, c.requires.6)) (omega arith), c.loop-j-test.true, c.requires.7)
 
-pub overflow_add-j : goal.overflow_add-j
-overflow_add-j c = omega (arith, c.loop-j-test.true, c.requires.0.words)
-
-pub loop-j-smaller-then-old-young-eq0 : goal.loop-j-smaller-then-old-young-eq0
-loop-j-smaller-then-old-young-eq0 c = omega (arith, c.loop-j-test.true)
-
 pub loop-j-preserved-then-old-young-eq0 : goal.loop-j-preserved-then-old-young-eq0
 loop-j-preserved-then-old-young-eq0 c = running-skips _ _ _ _ _ _ _ _ _ _ _ _ _ _ _ _ _ _ _ _ _ _ _ c.loop-j.invariant c.loop-j-test.true c.requires.6 c.if-old-young-eq0.true c.loop-j.invariant.keyed
 
@@ -46,12 +40,6 @@ overflow_mul-j c = omega (arith, c.loop-j-test.true, c.requires.0.words)
 
 pub add_word-lines-requires : goal.add_word-lines-requires
 add_word-lines-requires c = (fits_on c.requires.0 c.loop-j.invariant.areas c.loop-j.invariant.keyed c.loop-j.invariant.resting c.loop-j.invariant.hinting, c.requires.1, c.requires.2, omega (arith, c.loop-j.invariant.room, c.loop-j.invariant.keyed), c.requires.4, omega (arith, c.requires.5, c.loop-j.invariant.mores), omega (arith, c.loop-j-test.true, c.requires.0.words), c.picked-word.ensures.result_value)
-
-pub overflow_add-j-in-loop-j : goal.overflow_add-j-in-loop-j
-overflow_add-j-in-loop-j c = omega (arith, c.loop-j-test.true, c.requires.0.words)
-
-pub loop-j-smaller : goal.loop-j-smaller
-loop-j-smaller c = omega (arith, c.loop-j-test.true)
 
 pub loop-j-preserved : goal.loop-j-preserved
 loop-j-preserved c = running-on _ _ _ _ _ _ _ _ _ _ _ _ _ _ _ _ _ _ _ _ _ _ _ _ _ _ _ _ _ _ c.loop-j.invariant c.loop-j-test.true c.requires.6 c.picked-word.ensures.variant c.add_word-lines.ensures.by_index c.add_word-lines.ensures.upper_bound c.add_word-lines.ensures.more_len_unchanged c.add_word-lines.ensures.all_len_unchanged c.add_word-lines.ensures.keys_len_unchanged c.add_word-lines.ensures.rests_len_unchanged c.add_word-lines.ensures.hints_len_unchanged

@@ -6,7 +6,3 @@ use Rattle.unions.proofs.ends.add_runs.Given as goal
 abbrev pub invariant-loop-j : goal.invariant-loop-j
 invariant-loop-j l =
     Running l.head l.c l.letters l.heads l.n l.still l.alive l.states l.raising l.new l.initial.more l.initial.all l.initial.keys l.initial.rests l.initial.hints l.count l.more l.all l.keys l.rests l.hints l.lines l.j
-
-abbrev pub decreases-loop-j : goal.decreases-loop-j
-decreases-loop-j l =
-    l.n - l.j
