@@ -155,25 +155,3 @@ marking-ends count states letters n all new fresh₀ alive₀ fresh alive c l m 
     at : (d k : ℕ) → k < length el → (x : ℕ) (words : List ℕ) → holds words ((get_or states k 0 * letters + d) * n) x ≡ false
         → holds words ((get_or el k 0 * g.letters + d) * n) x ≡ false
     at d k lk x words h = rw (← listed k lk, ← eg) h
-
--- every number before place i is set
-pub record Filling (old : List ℕ) (number : ℕ) (list : List ℕ) (i : ℕ) : Type 0 where
-  pub long : length list ≡ length old
-  pub done : (k : ℕ) → k < i → get_or list k 0 ≡ number
-
-pub filling-on : (old : List ℕ) (number : ℕ) (list : List ℕ) (i : ℕ) → Filling old number list i → i < length list
-    → length (set list i number) ≡ length list → Filling old number (set list i number) (i + 1)
-filling-on old number list i f l long =
-    record {
-      long = long ∙ f.long;
-      done =
-          λ k m.
-          ⊎_elim
-          (λ (t : eqb k i ≡ true).
-          let e = eqb-true k i t in
-          ap (λ (j : ℕ). get_or (set list i number) j 0) e ∙ get_or-set_same list i number 0 l)
-          (λ (t : eqb k i ≡ false).
-          let n = eqb-false k i t in
-          get_or-set_other list i k number 0 n ∙ f.done k (omega (arith, n)))
-          (test (eqb k i));
-    }

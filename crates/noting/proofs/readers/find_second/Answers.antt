@@ -18,8 +18,8 @@ loop-c-preserved-then-fresh-c-eq0 c = (second-skip _ _ _ _ _ _ c.loop-c.invarian
 pub overflow_mul-c : goal.overflow_mul-c
 overflow_mul-c c = omega (arith, c.requires.0, c.loop-c-test.true)
 
-pub overflow_add-c-in-loop-c : goal.overflow_add-c-in-loop-c
-overflow_add-c-in-loop-c c = omega (arith, c.requires.0, c.loop-c-test.true)
+pub overflow_add-c : goal.overflow_add-c
+overflow_add-c c = omega (arith, c.requires.0, c.loop-c-test.true)
 
 pub put_common-requires : goal.put_common-requires
 put_common-requires c = (omega (arith, c.requires.0, c.loop-c-test.true), c.requires.2, c.requires.3, c.loop-c.invariant.2 ∙ c.requires.4)
