@@ -146,8 +146,5 @@ module _ (rules : List ℕ) (count letters control : ℕ) where
         rw same (linked_on (omega (arith, es, ls)) (omega (arith, el, ll)) (omega (arith, same, room)))
 
 -- where a loop from the last rule down stands
-pub later : {rules : List ℕ} {count letters control : ℕ} {firsts nexts : List ℕ} (r : ℕ) → 0 < r → LinkedFrom rules count letters control firsts nexts r → LinkedFrom rules count letters control firsts nexts (r - 1 + 1)
-later {rules} {count} {letters} {control} {firsts} {nexts} r h l = let e : r ≡ r - 1 + 1 = omega arith in subst (LinkedFrom rules count letters control firsts nexts) e l
-
 pub none_left : {rules : List ℕ} {count letters control : ℕ} {firsts nexts : List ℕ} (r : ℕ) → r ≤ 0 → LinkedFrom rules count letters control firsts nexts r → LinkedFrom rules count letters control firsts nexts 0
 none_left {rules} {count} {letters} {control} {firsts} {nexts} r h l = let e : r ≡ 0 = omega arith in subst (LinkedFrom rules count letters control firsts nexts) e l
