@@ -1,5 +1,5 @@
 -- A head that was offered something is marked if more entries are noted than before: as many are the same ones.
-use Prim.Native.Nat.{ℕ}
+use Prim.Native.Nat.{ℕ, ◌+◌}
 use native.Mathlib.Omega.{arith}
 use mathlib.Core.Path.{◌≡◌, sym, subst}
 use mathlib.Core.Logic.{inl, inr, ⊎_elim}
@@ -52,6 +52,10 @@ module _ (el : List ℕ) (g : PushdownGame) (good : Good g) (es : List Entry) (a
 module _ {el : List ℕ} {g : PushdownGame} (good : Good g) {n : ℕ} {es : List Entry} (asc : Ascending es) (ranged : AllRanged g es) {b size p a : ℕ} {now : List Entry} {d : List ℕ} {at : ℕ}
     {gains log log' added' : List ℕ} {count count' : ℕ} (t : Taking el g es b log count now) (none : Spared g es now gains)
     (given : Given el g n es b size p a now d at log' added' count') where
+  pub gave-full : count' ≡ size + 1 → Gave el g n es b size p a now d at gains log' added' count'
+  gave-full e = ⊎_elim inl (λ k. absurd (omega (arith, k.0, e)))
+      given
+
   pub gave-same : count' ≡ count → Gave el g n es b size p a now d at gains log' added' count'
   gave-same e =
       ⊎_elim inl

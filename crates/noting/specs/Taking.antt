@@ -1,5 +1,5 @@
 -- A round as far as it is taken: entries are noted one after another, and at last they are those of the round.
-use Rattle.std.specs.Prelude.{ℕ, suc, ◌+◌, ◌*◌, ◌^◌, ◌<◌, ◌≤◌, ◌≡◌, refl, List, [], ◌∷◌, length, get_or, set, eqb}
+use Rattle.std.specs.Prelude.{Option, None, Some, ℕ, suc, ◌+◌, ◌*◌, ◌^◌, ◌<◌, ◌≤◌, ◌≡◌, refl, List, [], ◌∷◌, length, get_or, set, eqb}
 use Rattle.std.proofs.Common.{arith, sym, ap, subst, ◌∙◌, inr, ⊎_elim, get_or-set_same, get_or-set_other, length-set, eq-eqb, eqb-true}
 use mathlib.Core.List.Memᴰ
 use Rattle.game.specs.ListLaws.{◌∈◌, below_suc, both, conj}
@@ -19,6 +19,11 @@ use Rattle.rounds.proofs.Growing.{absent-longer}
 use Rattle.unions.specs.Expand.{expand}
 use Rattle.unions.specs.Pool.{Head}
 use Rattle.unions.specs.Log.{Log, noted}
+
+-- how many entries there are as a number: one more than there may be, where they do not fit
+abbrev pub counted : ℕ → Option ℕ → ℕ
+counted size None = size + 1
+counted size (Some count) = count
 
 -- the entries noted are those of `now`: all old ones, and such as the round has
 pub record Taking (el : List ℕ) (g : PushdownGame) (es : List Entry) (b : ℕ) (log : List ℕ) (count : ℕ) (now : List Entry) : Type 0 where

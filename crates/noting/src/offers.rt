@@ -1,5 +1,5 @@
 // Sets that a round gives a head, noted as entries.
-ghost use Rattle.std.specs.Prelude.{◌≡◌, true, false, List, ℕ, ◌+◌, ◌*◌, ◌^◌, ◌<◌, ◌≤◌, length, ◌↔◌};
+ghost use Rattle.std.specs.Prelude.{IfSome, ◌≡◌, true, false, List, ℕ, ◌+◌, ◌*◌, ◌^◌, ◌<◌, ◌≤◌, length, ◌↔◌};
 ghost use Rattle.game.specs.Sets.{has};
 ghost use Rattle.game.specs.Game.{PushdownGame};
 ghost use Rattle.game.specs.GoodGame.{Good};
@@ -8,7 +8,7 @@ ghost use Rattle.table.specs.Pairwise.{Ascending};
 ghost use Rattle.rounds.specs.RoundLaws.{AllRanged};
 ghost use Rattle.unions.specs.Expand.{Elements};
 ghost use Rattle.unions.specs.Ending.{OfWord};
-ghost use Rattle.noting.specs.Taking.{Taking};
+ghost use Rattle.noting.specs.Taking.{Taking, counted};
 ghost use Rattle.noting.specs.Offers.{Offer, Noting, Adding, Offered, Given, Spared, Gave};
 ghost use Rattle.unions.specs.Pool.{Layout, HeadsHold};
 
@@ -16,7 +16,7 @@ use crate::signs::mark;
 use unions::{lowest_set, put_entry};
 
 // The sets of a word, the first of which is `from`, as entries of a head with one birthdate and one rule field. How many entries there
-// are, or one more than there may be.
+// are, if they fit.
 pub fn note_word(
     log: &mut [u32],
     count: usize,
@@ -25,12 +25,12 @@ pub fn note_word(
     from: usize,
     first: u32,
     rule: u32,
-) -> usize
+) -> Option<usize>
     requires { (size * 3 ≤ length log.old) × (count ≤ size) × (size ≤ 2048) × (from ≤ 960) }
     ensures by_index { (el : List ℕ) (g : PushdownGame) (es now' : List Entry) (b p a : ℕ) → Elements el g.states → Good g → Ascending es → AllRanged g es → Taking el g es b log.old count now'
         → first ≡ first_word p a b → p < g.control → a < g.letters → ((s : ℕ) → s < 64 → has word s ≡ true → Offer el g es now' p a rule (from + s))
-        → Noting el g es b size (OfWord word from) p a now' log.new result }
-    ensures upper_bound { result ≤ size + 1 }
+        → Noting el g es b size (OfWord word from) p a now' log.new (counted size result) }
+    ensures upper_bound { IfSome result (λ k. k ≤ size) }
     ensures log_len_unchanged { length log.new ≡ length log.old }
 {
     let mut entries = count;
@@ -38,13 +38,13 @@ pub fn note_word(
     while rest != 0 {
         let s = lowest_set(rest);
         if size <= entries {
-            return size + 1;
+            return None;
         }
         put_entry(log, entries * 3, first, (from + s) as u32, rule);
         entries += 1;
         rest = rest & (rest - 1);
     }
-    entries
+    Some(entries)
 }
 
 // A family at a place of `d` offered to a head of a control state: what the head neither has nor was given in the round is noted, and
@@ -61,14 +61,14 @@ pub fn offer(
     size: usize,
     first: u32,
     rule: u32,
-) -> usize
+) -> Option<usize>
     requires { (size * 3 ≤ length log.old) × (count ≤ size) × (size ≤ 2048) × (n ≤ 16) × (at + n ≤ length d.now) × (at ≤ 65536) × (head ≤ 2048)
         × (head * n + n ≤ length all.now) × (head * n + n ≤ length added.old) }
     ensures by_index { (el : List ℕ) (g : PushdownGame) (es now' : List Entry) (b p a : ℕ) → Layout el g n → Good g → Ascending es → AllRanged g es
         → Taking el g es b log.old count now' → first ≡ first_word p a b → p < g.control → a < g.letters → head ≡ p * g.letters + a
         → HeadsHold el g n es all.now → Adding el g n es now' added.old → Offered el g n es now' p a rule d.now at
-        → Given el g n es b size p a now' d.now at log.new added.new result }
-    ensures upper_bound { result ≤ size + 1 }
+        → Given el g n es b size p a now' d.now at log.new added.new (counted size result) }
+    ensures upper_bound { IfSome result (λ k. k ≤ size) }
     ensures added_len_unchanged { length added.new ≡ length added.old }
     ensures log_len_unchanged { length log.new ≡ length log.old }
 {
@@ -80,14 +80,11 @@ pub fn offer(
         }
         let word = unseen(given, all[head * n + j], added[head * n + j]);
         if word != 0 {
-            entries = note_word(log, entries, size, word, j * 64, first, rule);
-            if size < entries {
-                return entries;
-            }
+            entries = note_word(log, entries, size, word, j * 64, first, rule)?;
             added[head * n + j] = added[head * n + j] | word;
         }
     }
-    entries
+    Some(entries)
 }
 
 // The same to head (p, a), which is marked if it was given something.
@@ -106,25 +103,25 @@ pub fn give(
     size: usize,
     first: u32,
     rule: u32,
-) -> usize
+) -> Option<usize>
     requires { (size * 3 ≤ length log.old) × (count ≤ size) × (size ≤ 2048) × (n ≤ 16) × (at + n ≤ length d.now) × (at ≤ 65536) × (head ≤ 2048)
         × (head * n + n ≤ length all.now) × (head * n + n ≤ length added.old) × (p < length gains.old) × (a < 64) }
     ensures by_index { (el : List ℕ) (g : PushdownGame) (es now' : List Entry) (b : ℕ) → Layout el g n → Good g → Ascending es → AllRanged g es
         → Taking el g es b log.old count now' → first ≡ first_word p a b → p < g.control → a < g.letters → head ≡ p * g.letters + a
         → HeadsHold el g n es all.now → Adding el g n es now' added.old → Offered el g n es now' p a rule d.now at
         → Spared g es now' gains.old
-        → Gave el g n es b size p a now' d.now at gains.new log.new added.new result }
-    ensures upper_bound { result ≤ size + 1 }
+        → Gave el g n es b size p a now' d.now at gains.new log.new added.new (counted size result) }
+    ensures upper_bound { IfSome result (λ k. k ≤ size) }
     ensures added_len_unchanged { length added.new ≡ length added.old }
     ensures gains_len_unchanged { length gains.new ≡ length gains.old }
     ensures log_len_unchanged { length log.new ≡ length log.old }
 {
-    let entries = offer(d, at, head, n, all, added, log, count, size, first, rule);
+    let entries = offer(d, at, head, n, all, added, log, count, size, first, rule)?;
     if entries == count {
-        return entries;
+        return Some(entries);
     }
     mark(gains, p, a);
-    entries
+    Some(entries)
 }
 
 // The sets of a word that are in neither of two others.

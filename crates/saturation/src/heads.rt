@@ -1,13 +1,13 @@
 // Abelard's part of a round: each of his heads that is marked, since one of its rules may have more ends, is offered the unions of one end
 // of each rule.
-ghost use Rattle.std.specs.Prelude.{◌≡◌, true, List, ℕ, ◌+◌, ◌*◌, ◌/◌, ◌^◌, ◌<◌, ◌≤◌, length, get_or};
+ghost use Rattle.std.specs.Prelude.{IfSome, ◌≡◌, true, List, ℕ, ◌+◌, ◌*◌, ◌/◌, ◌^◌, ◌<◌, ◌≤◌, length, get_or};
 ghost use Rattle.game.specs.Game.{PushdownGame};
 ghost use Rattle.game.specs.Win.{is_abelard};
 ghost use Rattle.table.specs.Table.{Entry};
 ghost use Rattle.family.specs.Masks.{Raising};
 ghost use Rattle.unions.specs.Expand.{Elements};
 ghost use Rattle.noting.specs.Signs.{NoGains};
-ghost use Rattle.noting.specs.Taking.{Taking};
+ghost use Rattle.noting.specs.Taking.{Taking, counted};
 ghost use Rattle.noting.specs.Offers.{Adding, Spared};
 ghost use Rattle.saturation.specs.Steps.{Step, AbelardsTo};
 ghost use Rattle.saturation.specs.RuleLinks.{Climbs, Chain};
@@ -18,7 +18,7 @@ use game::has_state;
 use noting::give;
 use unions::lowest_set;
 
-// The heads of every control state. How many entries there are, or one more than there may be.
+// The heads of every control state. How many entries there are, if they fit.
 pub fn take_heads(
     abelard: u32,
     control: usize,
@@ -37,7 +37,7 @@ pub fn take_heads(
     count: usize,
     size: usize,
     birthdate: u32,
-) -> usize
+) -> Option<usize>
     requires { (size * 3 ≤ length log.old) × (count ≤ size) × (size ≤ 2048) × (n ≤ 16) × (control ≤ 24) × (letters ≤ 64)
         × (control * letters * n ≤ length all.now) × (control * letters * n ≤ length added.old) × (rulecount ≤ 256) × (rulecount * n ≤ length ends.now)
         × (length stirred.now ≡ 32) × (control * letters ≤ length firsts.now) × (256 ≤ length nexts.now) × Climbs nexts.now rulecount
@@ -45,8 +45,8 @@ pub fn take_heads(
     ensures by_index { (el : List ℕ) (g : PushdownGame) (old es now' : List Entry) (i : ℕ) (rules : List ℕ)
         → Ready el g n old es i abelard control letters rulecount rules ends.now stirred.now firsts.now nexts.now raising.now all.now
         → Taking el g es birthdate log.old count now' → Adding el g n es now' added.old → NoGains g es now' gains.old
-        → Step el g n es birthdate size now' (AbelardsTo g es (control * letters)) gains.new log.new added.new result }
-    ensures upper_bound { result ≤ size + 1 }
+        → Step el g n es birthdate size now' (AbelardsTo g es (control * letters)) gains.new log.new added.new (counted size result) }
+    ensures upper_bound { IfSome result (λ k. k ≤ size) }
     ensures added_len_unchanged { length added.new ≡ length added.old }
     ensures gains_len_unchanged { length gains.new ≡ length gains.old }
     ensures log_len_unchanged { length log.new ≡ length log.old }
@@ -56,12 +56,9 @@ pub fn take_heads(
         entries = take_row(
             abelard, p, stirred[p], letters, rulecount, n, ends, firsts, nexts, raising, all,
             added, gains, log, entries, size, birthdate,
-        );
-        if size < entries {
-            return entries;
-        }
+        )?;
     }
-    entries
+    Some(entries)
 }
 
 // The heads of state p that are marked in a word, the lowest letter first: none, if it is Éloise's.
@@ -83,7 +80,7 @@ fn take_row(
     count: usize,
     size: usize,
     birthdate: u32,
-) -> usize
+) -> Option<usize>
     requires { (size * 3 ≤ length log.old) × (count ≤ size) × (size ≤ 2048) × (n ≤ 16) × (p < 24) × (letters ≤ 64)
         × ((p * letters + letters) * n ≤ length all.now) × ((p * letters + letters) * n ≤ length added.old) × (rulecount ≤ 256) × (rulecount * n ≤ length ends.now)
         × (p * letters + letters ≤ length firsts.now) × (256 ≤ length nexts.now) × Climbs nexts.now rulecount
@@ -92,21 +89,21 @@ fn take_row(
         → Ready el g n old es i abelard control letters rulecount rules ends.now stirred firsts.now nexts.now raising.now all.now
         → p < control → word ≡ get_or stirred p 0
         → Taking el g es birthdate log.old count now' → Adding el g n es now' added.old → Spared g es now' gains.old
-        → Step el g n es birthdate size now' (AbelardsIn g es p letters) gains.new log.new added.new result }
-    ensures upper_bound { result ≤ size + 1 }
+        → Step el g n es birthdate size now' (AbelardsIn g es p letters) gains.new log.new added.new (counted size result) }
+    ensures upper_bound { IfSome result (λ k. k ≤ size) }
     ensures added_len_unchanged { length added.new ≡ length added.old }
     ensures gains_len_unchanged { length gains.new ≡ length gains.old }
     ensures log_len_unchanged { length log.new ≡ length log.old }
 {
     if !has_state(abelard, p as u8) {
-        return count;
+        return Some(count);
     }
     let mut entries = count;
     let mut rest = word;
     while rest != 0 {
         let a = lowest_set(rest);
         if letters <= a {
-            return entries;
+            return Some(entries);
         }
         entries = take_head(
             p,
@@ -125,13 +122,10 @@ fn take_row(
             entries,
             size,
             birthdate,
-        );
-        if size < entries {
-            return entries;
-        }
+        )?;
         rest = rest & (rest - 1);
     }
-    entries
+    Some(entries)
 }
 
 // Head (p, a) of Abelard's, by its number too. Each head has a rule, so that the chain from its first one on is not empty.
@@ -152,7 +146,7 @@ fn take_head(
     count: usize,
     size: usize,
     birthdate: u32,
-) -> usize
+) -> Option<usize>
     requires { (size * 3 ≤ length log.old) × (count ≤ size) × (size ≤ 2048) × (n ≤ 16) × (p < 24) × (a < 64) × (head < 2048)
         × (head * n + n ≤ length all.now) × (head * n + n ≤ length added.old) × (rulecount ≤ 256) × (rulecount * n ≤ length ends.now)
         × (head < length firsts.now) × (256 ≤ length nexts.now) × Climbs nexts.now rulecount
@@ -161,15 +155,15 @@ fn take_head(
         → Ready el g n old es i abelard control letters rulecount rules ends.now stirred firsts.now nexts.now raising.now all.now
         → p < control → a < letters → head ≡ p * letters + a → is_abelard g p ≡ true
         → Taking el g es birthdate log.old count now' → Adding el g n es now' added.old → Spared g es now' gains.old
-        → Step el g n es birthdate size now' (AbelardAt g es p a) gains.new log.new added.new result }
-    ensures upper_bound { result ≤ size + 1 }
+        → Step el g n es birthdate size now' (AbelardAt g es p a) gains.new log.new added.new (counted size result) }
+    ensures upper_bound { IfSome result (λ k. k ≤ size) }
     ensures added_len_unchanged { length added.new ≡ length added.old }
     ensures gains_len_unchanged { length gains.new ≡ length gains.old }
     ensures log_len_unchanged { length log.new ≡ length log.old }
 {
     let first = firsts[head];
     if rulecount <= first {
-        return count;
+        return Some(count);
     }
     let mut sets = [0u64; 16];
     unite_rules(rulecount, n, ends, nexts, raising, first, &mut sets);

@@ -1,13 +1,13 @@
 // A round, from what the last one added: the lines are brought up, the rules and Abelard's heads give what is new, as far as they read
 // something new, and the heads take it.
-ghost use Rattle.std.specs.Prelude.{◌≡◌, ◌⊎◌, List, ℕ, suc, ◌+◌, ◌*◌, ◌<◌, ◌≤◌, length, get_or};
+ghost use Rattle.std.specs.Prelude.{IfSome, ◌≡◌, ◌⊎◌, List, ℕ, suc, ◌+◌, ◌*◌, ◌<◌, ◌≤◌, length, get_or};
 ghost use Rattle.game.specs.Game.{PushdownGame};
 ghost use Rattle.table.specs.Table.{Entry};
 ghost use Rattle.rounds.specs.Rounds.{next_round};
 ghost use Rattle.saturation.specs.RuleLinks.{Linked, Climbs};
 ghost use Rattle.unions.specs.Pool.{HeadsGrew};
 ghost use Rattle.noting.specs.Signs.{Held, Reads};
-ghost use Rattle.saturation.specs.Ground.{Areas};
+ghost use Rattle.saturation.specs.Ground.{Areas, entries_of, lines_of};
 ghost use Rattle.saturation.specs.Resting.{Resting, RoundNoted, RoundTaken};
 
 use crate::heads::take_heads;
@@ -17,7 +17,7 @@ use game::Sizes;
 use noting::{close_heads, find_active};
 use unions::renew_lines;
 
-// How many entries there are afterwards, or one more than there may be, and how many lines.
+// How many entries and lines there are afterwards; nothing where the entries do not fit.
 pub fn take_round(
     sizes: Sizes,
     rules: &[u8],
@@ -46,7 +46,7 @@ pub fn take_round(
     stirred: &mut [u64],
     readers: &[u64],
     held: &mut [u64],
-) -> Counts
+) -> Option<Counts>
     requires { Areas sizes.letters heads n sizes.rulecount size rules.now states.now numbers.now all.old new.old keys.old rests.old hints.old fresh.old alive.old ends.old added.old log.old raising.now
         × (before.entries ≤ size) × (before.lines ≤ length keys.old) × (birthdate < 65536) × (sizes.control ≤ 24) × (sizes.control * sizes.letters ≤ heads)
         × (sizes.control * sizes.letters ≤ length firsts.now) × (256 ≤ length nexts.now) × Climbs nexts.now sizes.rulecount × (sizes.control ≤ sizes.states) × (sizes.states ≤ 32) × (sizes.states * sizes.letters ≤ heads)
@@ -55,8 +55,8 @@ pub fn take_round(
         → Reads rules.now sizes.rulecount readers.now
         → Linked rules.now sizes.rulecount sizes.letters sizes.control firsts.now nexts.now
         → Resting el g n heads old es i sizes.abelard sizes.letters sizes.rulecount rules.now states.now numbers.now raising.now all.old new.old keys.old rests.old fresh.old alive.old ends.old added.old log.old news.old held.old before.lines before.entries
-        → RoundTaken el g n heads es i birthdate size sizes.abelard sizes.letters sizes.rulecount rules.now states.now numbers.now raising.now all.new new.new keys.new rests.new fresh.new alive.new ends.new added.new log.new news.new held.new result.lines result.entries }
-    ensures entries_bound { (result.entries ≤ size + 1) × (result.lines ≤ length keys.old) × ((c : ℕ) → c < 64 → get_or alive.new c 0 < 1024) }
+        → RoundTaken el g n heads es i birthdate size sizes.abelard sizes.letters sizes.rulecount rules.now states.now numbers.now raising.now all.new new.new keys.new rests.new fresh.new alive.new ends.new added.new log.new news.new held.new (lines_of result) (entries_of size result) }
+    ensures entries_bound { IfSome result (λ k. (k.entries ≤ size) × (k.lines ≤ length keys.old)) × ((c : ℕ) → c < 64 → get_or alive.new c 0 < 1024) }
     ensures all_len_unchanged { length all.new ≡ length all.old }
     ensures len_unchanged { length new.new ≡ length new.old }
     ensures keys_len_unchanged { length keys.new ≡ length keys.old }
@@ -76,10 +76,7 @@ pub fn take_round(
         sizes, rules, states, numbers, heads, n, all, new, keys, rests, hints, fresh, alive, ends,
         firsts, nexts, raising, added, log, size, birthdate, before, news, gains, stirred, readers,
         held,
-    );
-    if size < counts.entries {
-        return counts;
-    }
+    )?;
     let letters = sizes.letters as usize;
     close_heads(
         sizes.control as usize,
@@ -96,7 +93,7 @@ pub fn take_round(
         news,
         gains,
     );
-    counts
+    Some(counts)
 }
 
 // All that the runs give, noted.
@@ -128,7 +125,7 @@ fn note_round(
     stirred: &mut [u64],
     readers: &[u64],
     held: &mut [u64],
-) -> Counts
+) -> Option<Counts>
     requires { Areas sizes.letters heads n sizes.rulecount size rules.now states.now numbers.now all.old new.old keys.old rests.old hints.old fresh.now alive.now ends.old added.old log.old raising.now
         × (before.entries ≤ size) × (before.lines ≤ length keys.old) × (birthdate < 65536) × (sizes.control ≤ 24) × (sizes.control * sizes.letters ≤ heads)
         × (sizes.control * sizes.letters ≤ length firsts.now) × (256 ≤ length nexts.now) × Climbs nexts.now sizes.rulecount × (sizes.control ≤ sizes.states) × (sizes.states ≤ 32) × (sizes.states * sizes.letters ≤ heads)
@@ -137,10 +134,10 @@ fn note_round(
         → Reads rules.now sizes.rulecount readers.now
         → Linked rules.now sizes.rulecount sizes.letters sizes.control firsts.now nexts.now
         → Resting el g n heads old es i sizes.abelard sizes.letters sizes.rulecount rules.now states.now numbers.now raising.now all.old new.old keys.old rests.old fresh.now alive.now ends.old added.old log.old news.now held.old before.lines before.entries
-        → ((result.entries ≡ size + 1) × (size < length (next_round g es birthdate)))
-        ⊎ ((result.entries ≤ size) × RoundNoted el g n heads states.now old es i birthdate sizes.rulecount (sizes.control * sizes.letters) all.new keys.new rests.new ends.new stirred.new gains.new log.new added.new result.lines result.entries
+        → ((entries_of size result ≡ size + 1) × (size < length (next_round g es birthdate)))
+        ⊎ ((entries_of size result ≤ size) × RoundNoted el g n heads states.now old es i birthdate sizes.rulecount (sizes.control * sizes.letters) all.new keys.new rests.new ends.new stirred.new gains.new log.new added.new (lines_of result) (entries_of size result)
         × Held g es held.new × HeadsGrew el g n old es new.new) }
-    ensures entries_bound { (result.entries ≤ size + 1) × (result.lines ≤ length keys.old) }
+    ensures entries_bound { IfSome result (λ k. (k.entries ≤ size) × (k.lines ≤ length keys.old)) }
     ensures all_len_unchanged { length all.new ≡ length all.old }
     ensures len_unchanged { length new.new ≡ length new.old }
     ensures keys_len_unchanged { length keys.new ≡ length keys.old }
@@ -205,10 +202,7 @@ fn note_round(
         size,
         birthdate,
         before,
-    );
-    if size < offered.entries {
-        return offered;
-    }
+    )?;
     let entries = take_heads(
         sizes.abelard,
         sizes.control as usize,
@@ -227,9 +221,9 @@ fn note_round(
         offered.entries,
         size,
         birthdate,
-    );
-    Counts {
+    )?;
+    Some(Counts {
         entries,
         lines: offered.lines,
-    }
+    })
 }

@@ -1,13 +1,13 @@
 // The rules of a round, the lowest first: what the ends of each one's runs have more. What Éloise's have more is offered to the head at
 // once, so that a set that no lower rule gave is given by this one first; what Abelard's have more is put into their ends.
-ghost use Rattle.std.specs.Prelude.{◌≡◌, true, false, List, ℕ, suc, ◌+◌, ◌*◌, ◌<◌, ◌≤◌, length, get_or};
+ghost use Rattle.std.specs.Prelude.{IfSome, ◌≡◌, true, false, List, ℕ, suc, ◌+◌, ◌*◌, ◌<◌, ◌≤◌, length, get_or};
 ghost use Rattle.game.specs.Sets.{has};
 ghost use Rattle.game.specs.Game.{Rule, PushdownGame};
 ghost use Rattle.game.specs.ListLaws.{◌∈◌};
 ghost use Rattle.table.specs.Table.{Entry, first_word};
 ghost use Rattle.unions.specs.Ending.{RuleEnds, RuleBefore};
 ghost use Rattle.noting.specs.Signs.{Unmoved};
-ghost use Rattle.saturation.specs.Ground.{Ground, Areas, RulesTo, RulesTaken};
+ghost use Rattle.saturation.specs.Ground.{Ground, Areas, RulesTo, RulesTaken, entries_of, lines_of};
 
 use game::{Game, has_state};
 use noting::{give, keep_more};
@@ -20,7 +20,7 @@ pub struct Counts {
     pub lines: usize,
 }
 
-// Every rule that is marked in `active`. One entry more than there may be where the round does not fit.
+// Every rule that is marked in `active`. Nothing where the round does not fit.
 pub fn take_rules(
     active: &[u64],
     abelard: u32,
@@ -47,15 +47,15 @@ pub fn take_rules(
     size: usize,
     birthdate: u32,
     before: Counts,
-) -> Counts
+) -> Option<Counts>
     requires { Areas letters heads n rulecount size rules.now states.now numbers.now all.old new.now keys.old rests.old hints.old fresh.now alive.now ends.old added.old log.old raising.now
         × (before.entries ≤ size) × (before.lines ≤ length keys.old) × (birthdate < 65536) × (length stirred.old ≡ 32) × (length gains.old ≡ 32) × (length active.now ≡ 4) }
     ensures by_index { (el : List ℕ) (g : PushdownGame) (old es : List Entry) (i : ℕ) (now' : List Entry)
         → Ground el g n old es i abelard letters rulecount rules.now numbers.now new.now fresh.now alive.now raising.now
         → Unmoved g old es i active.now
         → RulesTo el g n heads states.now old es i birthdate now' 0 all.old keys.old rests.old ends.old stirred.old gains.old log.old added.old before.lines before.entries
-        → RulesTaken el g n heads states.now old es i birthdate size now' rulecount all.new keys.new rests.new ends.new stirred.new gains.new log.new added.new result.lines result.entries }
-    ensures entries_bound { (result.entries ≤ size + 1) × (result.lines ≤ length keys.old) }
+        → RulesTaken el g n heads states.now old es i birthdate size now' rulecount all.new keys.new rests.new ends.new stirred.new gains.new log.new added.new (lines_of result) (entries_of size result) }
+    ensures entries_bound { IfSome result (λ k. (k.entries ≤ size) × (k.lines ≤ length keys.old)) }
     ensures all_len_unchanged { length all.new ≡ length all.old }
     ensures keys_len_unchanged { length keys.new ≡ length keys.old }
     ensures rests_len_unchanged { length rests.new ≡ length rests.old }
@@ -95,12 +95,9 @@ pub fn take_rules(
             size,
             birthdate,
             counts,
-        );
-        if size < counts.entries {
-            return counts;
-        }
+        )?;
     }
-    counts
+    Some(counts)
 }
 
 // The rules of a word of marks, the first of which is `from`.
@@ -131,15 +128,15 @@ fn take_word(
     size: usize,
     birthdate: u32,
     before: Counts,
-) -> Counts
+) -> Option<Counts>
     requires { Areas letters heads n rulecount size rules.now states.now numbers.now all.old new.now keys.old rests.old hints.old fresh.now alive.now ends.old added.old log.old raising.now
         × (before.entries ≤ size) × (before.lines ≤ length keys.old) × (birthdate < 65536) × (length stirred.old ≡ 32) × (length gains.old ≡ 32) × (from ≤ 192) }
     ensures by_index { (el : List ℕ) (g : PushdownGame) (old es : List Entry) (i : ℕ) (now' : List Entry)
         → Ground el g n old es i abelard letters rulecount rules.now numbers.now new.now fresh.now alive.now raising.now
         → ((r : Rule) → r ∈ g.rules → (s : ℕ) → s < 64 → r.number ≡ from + s → has word s ≡ false → (z : ℕ) → RuleEnds g es r z → RuleBefore g old i r z)
         → RulesTo el g n heads states.now old es i birthdate now' from all.old keys.old rests.old ends.old stirred.old gains.old log.old added.old before.lines before.entries
-        → RulesTaken el g n heads states.now old es i birthdate size now' (from + 64) all.new keys.new rests.new ends.new stirred.new gains.new log.new added.new result.lines result.entries }
-    ensures entries_bound { (result.entries ≤ size + 1) × (result.lines ≤ length keys.old) }
+        → RulesTaken el g n heads states.now old es i birthdate size now' (from + 64) all.new keys.new rests.new ends.new stirred.new gains.new log.new added.new (lines_of result) (entries_of size result) }
+    ensures entries_bound { IfSome result (λ k. (k.entries ≤ size) × (k.lines ≤ length keys.old)) }
     ensures all_len_unchanged { length all.new ≡ length all.old }
     ensures keys_len_unchanged { length keys.new ≡ length keys.old }
     ensures rests_len_unchanged { length rests.new ≡ length rests.old }
@@ -155,19 +152,16 @@ fn take_word(
     while rest != 0 {
         let r = from + lowest_set(rest);
         if rulecount <= r {
-            return counts;
+            return Some(counts);
         }
         counts = take_rule(
             r, abelard, rules, rulecount, states, numbers, letters, heads, n, all, new, keys,
             rests, hints, fresh, alive, ends, stirred, gains, raising, added, log, size, birthdate,
             counts,
-        );
-        if size < counts.entries {
-            return counts;
-        }
+        )?;
         rest = rest & (rest - 1);
     }
-    counts
+    Some(counts)
 }
 
 // Rule r. Where it is Éloise's and writes one letter, its ends have more what the head has more to which it leads.
@@ -197,14 +191,14 @@ fn take_rule(
     size: usize,
     birthdate: u32,
     before: Counts,
-) -> Counts
+) -> Option<Counts>
     requires { Areas letters heads n rulecount size rules.now states.now numbers.now all.old new.now keys.old rests.old hints.old fresh.now alive.now ends.old added.old log.old raising.now
         × (before.entries ≤ size) × (before.lines ≤ length keys.old) × (birthdate < 65536) × (length stirred.old ≡ 32) × (length gains.old ≡ 32) × (r < rulecount) }
     ensures by_index { (el : List ℕ) (g : PushdownGame) (old es : List Entry) (i : ℕ) (now' : List Entry)
         → Ground el g n old es i abelard letters rulecount rules.now numbers.now new.now fresh.now alive.now raising.now
         → RulesTo el g n heads states.now old es i birthdate now' r all.old keys.old rests.old ends.old stirred.old gains.old log.old added.old before.lines before.entries
-        → RulesTaken el g n heads states.now old es i birthdate size now' (suc r) all.new keys.new rests.new ends.new stirred.new gains.new log.new added.new result.lines result.entries }
-    ensures entries_bound { (result.entries ≤ size + 1) × (result.lines ≤ length keys.old) }
+        → RulesTaken el g n heads states.now old es i birthdate size now' (suc r) all.new keys.new rests.new ends.new stirred.new gains.new log.new added.new (lines_of result) (entries_of size result) }
+    ensures entries_bound { IfSome result (λ k. (k.entries ≤ size) × (k.lines ≤ length keys.old)) }
     ensures all_len_unchanged { length all.new ≡ length all.old }
     ensures keys_len_unchanged { length keys.new ≡ length keys.old }
     ensures rests_len_unchanged { length rests.new ≡ length rests.old }
@@ -221,7 +215,7 @@ fn take_rule(
     let first = first_of(rules[at], rules[at + 1], birthdate);
     if is_direct(abelard, rules[at], rules[at + 3]) {
         let head = byte_of(rules[at + 2]) * letters + byte_of(rules[at + 4]);
-        let direct = give(
+        let entries = give(
             new,
             head * n,
             p,
@@ -236,11 +230,11 @@ fn take_rule(
             size,
             first,
             (r as u32) + 1,
-        );
-        return Counts {
-            entries: direct,
+        )?;
+        return Some(Counts {
+            entries,
             lines: before.lines,
-        };
+        });
     }
     let mut more = [0u64; 16];
     let lines = more_of_rule(
@@ -264,10 +258,10 @@ fn take_rule(
     );
     if has_state(abelard, rules[at]) {
         keep_more(ends, r * n, &more, n, stirred, p, a);
-        return Counts {
+        return Some(Counts {
             entries: before.entries,
             lines,
-        };
+        });
     }
     let entries = give(
         &more,
@@ -284,8 +278,8 @@ fn take_rule(
         size,
         first,
         (r as u32) + 1,
-    );
-    Counts { entries, lines }
+    )?;
+    Some(Counts { entries, lines })
 }
 
 // A rule is Éloise's and writes one letter.

@@ -66,7 +66,7 @@ pub fn rounds_in(
     let mut alive = [0usize; 64];
     let mut news = [0u64; 32];
     let size = table.len() / EntryWords::STRIDE;
-    let first = note_targets(
+    let Some(first) = note_targets(
         targets,
         sizes.targetcount,
         numbers,
@@ -78,10 +78,9 @@ pub fn rounds_in(
         work,
         size,
         &mut news,
-    );
-    if size < first {
+    ) else {
         return give_up(table, work, 11, 0);
-    }
+    };
     set_masks(
         elements, states, letters, heads, n, all, new, &mut fresh, &mut alive,
     );
@@ -145,7 +144,7 @@ fn rounds_on(
             entries: counts.entries,
             lines: lines_kept(counts.lines, oldest, older, counts.entries, size),
         };
-        let next = take_round(
+        let Some(next) = take_round(
             sizes,
             rules,
             states,
@@ -173,7 +172,12 @@ fn rounds_on(
             &mut stirred,
             readers,
             &mut held,
-        );
+        ) else {
+            if Game::MAX_ROUNDS <= i {
+                return give_up(table, log, 12, i as usize + 1);
+            }
+            return give_up(table, log, 11, i as usize + 1);
+        };
         if next.entries == counts.entries {
             return settle(
                 table,
@@ -190,9 +194,6 @@ fn rounds_on(
         }
         if Game::MAX_ROUNDS <= i {
             return give_up(table, log, 12, i as usize + 1);
-        }
-        if size < next.entries {
-            return give_up(table, log, 11, i as usize + 1);
         }
         oldest = older;
         older = counts.entries;

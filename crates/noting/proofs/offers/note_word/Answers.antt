@@ -11,9 +11,6 @@ loop-rest-init c = words-start _ _ _ _ _ _ _ c.requires.1
 pub lowest_set-s-requires : goal.lowest_set-s-requires
 lowest_set-s-requires c = omega (arith, c.loop-rest-test.true)
 
-pub overflow_add-result : goal.overflow_add-result
-overflow_add-result c = omega (arith, c.requires.2)
-
 pub shape_of-log-then-size-entries : goal.shape_of-log-then-size-entries
 shape_of-log-then-size-entries c = c.loop-rest.invariant.same
 
@@ -21,7 +18,7 @@ pub returns-then-size-entries : goal.returns-then-size-entries
 returns-then-size-entries c =
     record {
       by_index = (λ el g es now b p a ok good asc ranged t ef lp la offers. inl (refl, words-full _ _ _ _ _ _ _ _ _ _ _ c.loop-rest.invariant (omega (arith, c.loop-rest-test.true)) c.lowest_set-s.ensures c.if-size-entries.true el g es now b p a ok good asc ranged t ef lp la offers));
-      upper_bound = omega arith;
+      upper_bound = tt;
       log_len_unchanged = c.loop-rest.invariant.same;
     }
 

@@ -4,7 +4,7 @@ use mathlib.Core.Path.{refl, ◌∙◌}
 use Rattle.noting.proofs.Giving.{giving-starts, giving-full, giving-on, giving-none, giving-skips, giving-ends}
 use Rattle.unions.specs.PlaceLaws.{place-small}
 use Rattle.noting.proofs.offers.offer.Goals as goal
-use Rattle.noting.proofs.offers.offer.Goals.{then-word-ne0+else-size-entries, else-word-ne0}
+use Rattle.noting.proofs.offers.offer.Goals.{then-word-ne0+in_ok-entries, else-word-ne0}
 
 pub loop-j-init : goal.loop-j-init
 loop-j-init c = giving-starts _ _ _ _ _ _ _ _ _ _ _ c.requires.1
@@ -48,23 +48,12 @@ bounds-added-head c = omega (arith, c.requires.8, c.loop-j-test.true, c.loop-j.i
 pub overflow_mul-j : goal.overflow_mul-j
 overflow_mul-j c = omega (arith, c.requires.3, c.loop-j-test.true)
 
-pub note_word-entries-requires : goal.note_word-entries-requires
-note_word-entries-requires c = (omega (arith, c.requires.0, c.loop-j.invariant.same), c.loop-j.invariant.room, c.requires.2, omega (arith, c.requires.3, c.loop-j-test.true))
+pub note_word-requires : goal.note_word-requires
+note_word-requires c = (omega (arith, c.requires.0, c.loop-j.invariant.same), c.loop-j.invariant.room, c.requires.2, omega (arith, c.requires.3, c.loop-j-test.true))
 
-pub shape_of-added-then-size-entries : goal.shape_of-added-then-size-entries
-shape_of-added-then-size-entries c = c.loop-j.invariant.areas
-
-pub shape_of-log-then-size-entries : goal.shape_of-log-then-size-entries
-shape_of-log-then-size-entries c = c.note_word-entries.ensures.log_len_unchanged ∙ c.loop-j.invariant.same
-
-pub returns-then-size-entries : goal.returns-then-size-entries
-returns-then-size-entries c =
-    record {
-      by_index = (λ el g es now b p a lay good asc ranged t ef lp la eh hold adding offered. giving-full _ _ _ _ _ _ _ _ _ _ _ _ _ _ _ _ c.loop-j.invariant c.loop-j-test.true (omega (arith, c.requires.8, c.loop-j.invariant.areas)) c.unseen-word.ensures _ _ c.note_word-entries.ensures.by_index c.if-size-entries.true c.note_word-entries.ensures.upper_bound el g es now b p a lay good asc ranged t ef lp la eh hold adding offered _);
-      upper_bound = c.note_word-entries.ensures.upper_bound;
-      added_len_unchanged = c.loop-j.invariant.areas;
-      log_len_unchanged = c.note_word-entries.ensures.log_len_unchanged ∙ c.loop-j.invariant.same;
-    }
+pub returns-in_err-entries-clause-by_index : goal.returns-in_err-entries-clause-by_index
+returns-in_err-entries-clause-by_index c =
+    λ el g es now b p a lay good asc ranged t ef lp la eh hold adding offered. rw c.from_residual.ensures (giving-full _ _ _ _ _ _ _ _ _ _ _ _ _ _ _ _ c.loop-j.invariant c.loop-j-test.true (omega (arith, c.requires.8, c.loop-j.invariant.areas)) c.unseen-word.ensures _ _ (rw c.in_err-entries.was at c.note_word.ensures.by_index) (omega arith) (omega arith) el g es now b p a lay good asc ranged t ef lp la eh hold adding offered _)
 
 pub overflow_mul-added : goal.overflow_mul-added
 overflow_mul-added c = omega (arith, place-small c.args.head _ (omega (arith, c.requires.6)) c.requires.3)
@@ -93,7 +82,7 @@ bounds-added-head-then-word-ne0-2 c = omega (arith, c.requires.8, c.loop-j-test.
 pub loop-j-preserved : goal.loop-j-preserved
 loop-j-preserved c =
     elim c.if-word-ne0.branch [
-      | then-word-ne0+else-size-entries w ↦ rw (w.added-is, w.log-is, w.entries-is) (giving-on _ _ _ _ _ _ _ _ _ _ _ _ _ _ _ _ c.loop-j.invariant c.loop-j-test.true (omega (arith, c.requires.8, c.loop-j.invariant.areas)) c.unseen-word.ensures _ _ w.note_word-entries.ensures.by_index _ w.if-size-entries.false w.note_word-entries.ensures.log_len_unchanged refl (simp length-set))
+      | then-word-ne0+in_ok-entries w ↦ rw (w.added-is, w.log-is, w.entries-is) (giving-on _ _ _ _ _ _ _ _ _ _ _ _ _ _ _ _ c.loop-j.invariant c.loop-j-test.true (omega (arith, c.requires.8, c.loop-j.invariant.areas)) c.unseen-word.ensures _ _ (rw w.in_ok-entries.was at w.note_word.ensures.by_index) _ (rw w.in_ok-entries.was at w.note_word.ensures.upper_bound) w.note_word.ensures.log_len_unchanged refl (simp length-set))
       | else-word-ne0 w ↦ rw (w.added-is, w.log-is, w.entries-is) (giving-none _ _ _ _ _ _ _ _ _ _ _ _ _ _ _ _ c.loop-j.invariant c.loop-j-test.true (omega (arith, c.requires.8, c.loop-j.invariant.areas)) c.unseen-word.ensures w.if-word-ne0.false)
     ]
 

@@ -5,14 +5,11 @@ use Rattle.unions.specs.PlaceLaws.{place-small}
 use Rattle.noting.proofs.Starting.{target, starting-first, starting-begun, starting-ends, starting-beyond, head-found, set_found}
 use Rattle.noting.proofs.targets.note_targets.Goals as goal
 
-pub overflow_add-result : goal.overflow_add-result
-overflow_add-result c = omega (arith, c.requires.1)
-
 pub returns-then-size-targetcount : goal.returns-then-size-targetcount
 returns-then-size-targetcount c =
     record {
       starts = (λ g el count states sizes rules held good elements lay eg eh ec bare bare'. starting-beyond _ _ _ _ _ _ _ _ c.args.log.now c.args.news.now _ _ _ _ _ c.if-size-targetcount.true g el (target g el count states sizes rules _ _ _ _ _ _ _ _ held good elements lay eg eh ec bare bare'));
-      upper_bound = omega arith;
+      upper_bound = tt;
       all_len_unchanged = refl;
       len_unchanged = refl;
       log_len_unchanged = refl;
@@ -43,9 +40,6 @@ bounds-targets-at-in-loop-t c = omega (arith, c.loop-t-test.true, c.requires.3)
 pub head_at-head-requires : goal.head_at-head-requires
 head_at-head-requires c = c.requires.10
 
-pub overflow_add-result-then-heads-head : goal.overflow_add-result-then-heads-head
-overflow_add-result-then-heads-head c = omega (arith, c.requires.1)
-
 pub shape_of-all-then-heads-head : goal.shape_of-all-then-heads-head
 shape_of-all-then-heads-head c = c.loop-t.invariant.areas
 
@@ -62,7 +56,7 @@ pub returns-then-heads-head : goal.returns-then-heads-head
 returns-then-heads-head c =
     record {
       starts = (λ g el count states sizes rules held good elements lay eg eh ec bare bare'. absurd (head-found _ _ _ _ _ _ _ _ c.args.log.now c.args.news.now _ c.loop-t-test.true g el (target g el count states sizes rules _ _ _ _ _ _ _ _ held good elements lay eg eh ec bare bare') _ c.head_at-head.ensures.value c.if-heads-head.true));
-      upper_bound = omega arith;
+      upper_bound = tt;
       all_len_unchanged = c.loop-t.invariant.areas;
       len_unchanged = c.loop-t.invariant.newer;
       log_len_unchanged = c.loop-t.invariant.same;
@@ -81,9 +75,6 @@ bounds-targets-at-in-loop-t-2 c = omega (arith, c.loop-t-test.true, c.requires.3
 pub element_set-x-requires : goal.element_set-x-requires
 element_set-x-requires c = (c.requires.4, c.requires.5)
 
-pub overflow_add-result-then-n-x : goal.overflow_add-result-then-n-x
-overflow_add-result-then-n-x c = omega (arith, c.requires.1)
-
 pub shape_of-all-then-n-x : goal.shape_of-all-then-n-x
 shape_of-all-then-n-x c = c.loop-t.invariant.areas
 
@@ -100,7 +91,7 @@ pub returns-then-n-x : goal.returns-then-n-x
 returns-then-n-x c =
     record {
       starts = (λ g el count states sizes rules held good elements lay eg eh ec bare bare'. absurd (set_found _ _ _ _ _ _ _ _ c.args.log.now c.args.news.now _ c.loop-t-test.true g el (target g el count states sizes rules _ _ _ _ _ _ _ _ held good elements lay eg eh ec bare bare') _ c.element_set-x.ensures.upper_bound_2 c.if-n-x.true));
-      upper_bound = omega arith;
+      upper_bound = tt;
       all_len_unchanged = c.loop-t.invariant.areas;
       len_unchanged = c.loop-t.invariant.newer;
       log_len_unchanged = c.loop-t.invariant.same;

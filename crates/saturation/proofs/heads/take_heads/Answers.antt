@@ -13,30 +13,15 @@ offset_bounds-stirred-p c = omega (arith, c.loop-p-test.true, c.requires.4)
 pub bounds-stirred-p : goal.bounds-stirred-p
 bounds-stirred-p c = omega (arith, c.loop-p-test.true, c.requires.4, c.requires.10)
 
-pub take_row-entries-requires : goal.take_row-entries-requires
-take_row-entries-requires c = (omega (arith, c.requires.0, c.loop-p.invariant.logs), c.loop-p.invariant.room, c.requires.2, c.requires.3, omega (arith, c.loop-p-test.true, c.requires.4), c.requires.5, row_in _ _ _ _ _ _ c.loop-p-test.true c.requires.6 refl, row_in _ _ _ _ _ _ c.loop-p-test.true c.requires.7 c.loop-p.invariant.adds, c.requires.8, c.requires.9, rows_in _ _ _ _ c.loop-p-test.true c.requires.11, c.requires.12, c.requires.13, c.requires.14, c.requires.15, c.loop-p.invariant.gaining ∙ c.requires.16)
+pub take_row-requires : goal.take_row-requires
+take_row-requires c = (omega (arith, c.requires.0, c.loop-p.invariant.logs), c.loop-p.invariant.room, c.requires.2, c.requires.3, omega (arith, c.loop-p-test.true, c.requires.4), c.requires.5, row_in _ _ _ _ _ _ c.loop-p-test.true c.requires.6 refl, row_in _ _ _ _ _ _ c.loop-p-test.true c.requires.7 c.loop-p.invariant.adds, c.requires.8, c.requires.9, rows_in _ _ _ _ c.loop-p-test.true c.requires.11, c.requires.12, c.requires.13, c.requires.14, c.requires.15, c.loop-p.invariant.gaining ∙ c.requires.16)
 
-pub shape_of-added-then-size-entries : goal.shape_of-added-then-size-entries
-shape_of-added-then-size-entries c = c.take_row-entries.ensures.added_len_unchanged ∙ c.loop-p.invariant.adds
-
-pub shape_of-gains-then-size-entries : goal.shape_of-gains-then-size-entries
-shape_of-gains-then-size-entries c = c.take_row-entries.ensures.gains_len_unchanged ∙ c.loop-p.invariant.gaining
-
-pub shape_of-log-then-size-entries : goal.shape_of-log-then-size-entries
-shape_of-log-then-size-entries c = c.take_row-entries.ensures.log_len_unchanged ∙ c.loop-p.invariant.logs
-
-pub returns-then-size-entries : goal.returns-then-size-entries
-returns-then-size-entries c =
-    record {
-      by_index = (λ el g old es now i rules k taking adding gained. going-full _ _ _ _ _ _ _ _ _ _ _ _ _ _ _ _ _ c.loop-p.invariant c.loop-p-test.true c.take_row-entries.ensures.by_index c.if-size-entries.true el g old es now i rules k taking adding (record { none = gained }));
-      upper_bound = c.take_row-entries.ensures.upper_bound;
-      added_len_unchanged = c.take_row-entries.ensures.added_len_unchanged ∙ c.loop-p.invariant.adds;
-      gains_len_unchanged = c.take_row-entries.ensures.gains_len_unchanged ∙ c.loop-p.invariant.gaining;
-      log_len_unchanged = c.take_row-entries.ensures.log_len_unchanged ∙ c.loop-p.invariant.logs;
-    }
+pub returns-in_err-entries-clause-by_index : goal.returns-in_err-entries-clause-by_index
+returns-in_err-entries-clause-by_index c =
+    λ el g old es now i rules k taking adding gained. rw c.from_residual.ensures (going-full _ _ _ _ _ _ _ _ _ _ _ _ _ _ _ _ _ c.loop-p.invariant c.loop-p-test.true (rw c.in_err-entries.was at c.take_row.ensures.by_index) (omega arith) el g old es now i rules k taking adding (record { none = gained }))
 
 pub loop-p-preserved : goal.loop-p-preserved
-loop-p-preserved c = going_on _ _ _ _ _ _ _ _ _ _ _ _ _ _ _ _ _ c.loop-p.invariant c.loop-p-test.true c.take_row-entries.ensures.by_index c.if-size-entries.false c.take_row-entries.ensures.added_len_unchanged c.take_row-entries.ensures.gains_len_unchanged c.take_row-entries.ensures.log_len_unchanged
+loop-p-preserved c = going_on _ _ _ _ _ _ _ _ _ _ _ _ _ _ _ _ _ c.loop-p.invariant c.loop-p-test.true (rw c.in_ok-entries.was at c.take_row.ensures.by_index) (rw c.in_ok-entries.was at c.take_row.ensures.upper_bound) c.take_row.ensures.added_len_unchanged c.take_row.ensures.gains_len_unchanged c.take_row.ensures.log_len_unchanged
 
 pub shape_of-added : goal.shape_of-added
 shape_of-added c = c.loop-p.invariant.adds

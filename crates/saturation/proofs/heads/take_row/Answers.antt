@@ -54,27 +54,12 @@ overflow_mul-p c = omega (arith, few-heads c.args.p c.args.letters (omega (arith
 pub overflow_add-p : goal.overflow_add-p
 overflow_add-p c = omega (arith, few-heads c.args.p c.args.letters (omega (arith, c.requires.4)) c.requires.5, c.if-letters-a.false, c.requires.5)
 
-pub take_head-entries-requires : goal.take_head-entries-requires
-take_head-entries-requires c = (omega (arith, c.requires.0, c.loop-rest.invariant.logs), c.loop-rest.invariant.room, c.requires.2, c.requires.3, c.requires.4, c.lowest_set-a.ensures.small, head_few _ _ _ c.requires.4 c.requires.5 c.if-letters-a.false, place-in-row _ _ _ _ _ _ c.if-letters-a.false c.requires.6 refl, place-in-row _ _ _ _ _ _ c.if-letters-a.false c.requires.7 c.loop-rest.invariant.adds, c.requires.8, c.requires.9, omega (arith, c.if-letters-a.false, c.requires.10), c.requires.11, c.requires.12, c.requires.13, c.requires.14, c.loop-rest.invariant.gaining ∙ c.requires.15)
+pub take_head-requires : goal.take_head-requires
+take_head-requires c = (omega (arith, c.requires.0, c.loop-rest.invariant.logs), c.loop-rest.invariant.room, c.requires.2, c.requires.3, c.requires.4, c.lowest_set-a.ensures.small, head_few _ _ _ c.requires.4 c.requires.5 c.if-letters-a.false, place-in-row _ _ _ _ _ _ c.if-letters-a.false c.requires.6 refl, place-in-row _ _ _ _ _ _ c.if-letters-a.false c.requires.7 c.loop-rest.invariant.adds, c.requires.8, c.requires.9, omega (arith, c.if-letters-a.false, c.requires.10), c.requires.11, c.requires.12, c.requires.13, c.requires.14, c.loop-rest.invariant.gaining ∙ c.requires.15)
 
-pub shape_of-added-then-size-entries : goal.shape_of-added-then-size-entries
-shape_of-added-then-size-entries c = c.take_head-entries.ensures.added_len_unchanged ∙ c.loop-rest.invariant.adds
-
-pub shape_of-gains-then-size-entries : goal.shape_of-gains-then-size-entries
-shape_of-gains-then-size-entries c = c.take_head-entries.ensures.gains_len_unchanged ∙ c.loop-rest.invariant.gaining
-
-pub shape_of-log-then-size-entries : goal.shape_of-log-then-size-entries
-shape_of-log-then-size-entries c = c.take_head-entries.ensures.log_len_unchanged ∙ c.loop-rest.invariant.logs
-
-pub returns-then-size-entries : goal.returns-then-size-entries
-returns-then-size-entries c =
-    record {
-      by_index = (λ el g old es now i rules control stirred k lp ew taking adding spared. rowing-full _ _ _ _ _ _ _ _ _ _ _ _ _ _ _ _ _ c.loop-rest.invariant _ (omega (arith, c.loop-rest-test.true)) c.lowest_set-a.ensures c.if-letters-a.false c.take_head-entries.ensures.by_index c.if-size-entries.true el g old es now i rules control stirred k lp ew (his k _ c.has_state.ensures (ap not c.if-not-has_state.false)) taking adding spared);
-      upper_bound = c.take_head-entries.ensures.upper_bound;
-      added_len_unchanged = c.take_head-entries.ensures.added_len_unchanged ∙ c.loop-rest.invariant.adds;
-      gains_len_unchanged = c.take_head-entries.ensures.gains_len_unchanged ∙ c.loop-rest.invariant.gaining;
-      log_len_unchanged = c.take_head-entries.ensures.log_len_unchanged ∙ c.loop-rest.invariant.logs;
-    }
+pub returns-in_err-entries-clause-by_index : goal.returns-in_err-entries-clause-by_index
+returns-in_err-entries-clause-by_index c =
+    λ el g old es now i rules control stirred k lp ew taking adding spared. rw c.from_residual.ensures (rowing-full _ _ _ _ _ _ _ _ _ _ _ _ _ _ _ _ _ c.loop-rest.invariant _ (omega (arith, c.loop-rest-test.true)) c.lowest_set-a.ensures c.if-letters-a.false (rw c.in_err-entries.was at c.take_head.ensures.by_index) (omega arith) el g old es now i rules control stirred k lp ew (his k _ c.has_state.ensures (ap not c.if-not-has_state.false)) taking adding spared)
 
 pub overflow_sub-rest : goal.overflow_sub-rest
 overflow_sub-rest c = omega (arith, c.loop-rest-test.true)
@@ -83,7 +68,7 @@ pub loop-rest-smaller : goal.loop-rest-smaller
 loop-rest-smaller c = cleared-falls _ (omega (arith, c.loop-rest-test.true))
 
 pub loop-rest-preserved : goal.loop-rest-preserved
-loop-rest-preserved c = rowing-on _ _ _ _ _ _ _ _ _ _ _ _ _ _ _ _ _ c.loop-rest.invariant _ (omega (arith, c.loop-rest-test.true)) c.lowest_set-a.ensures c.if-letters-a.false c.take_head-entries.ensures.by_index c.if-size-entries.false c.take_head-entries.ensures.added_len_unchanged c.take_head-entries.ensures.gains_len_unchanged c.take_head-entries.ensures.log_len_unchanged
+loop-rest-preserved c = rowing-on _ _ _ _ _ _ _ _ _ _ _ _ _ _ _ _ _ c.loop-rest.invariant _ (omega (arith, c.loop-rest-test.true)) c.lowest_set-a.ensures c.if-letters-a.false (rw c.in_ok-entries.was at c.take_head.ensures.by_index) (rw c.in_ok-entries.was at c.take_head.ensures.upper_bound) c.take_head.ensures.added_len_unchanged c.take_head.ensures.gains_len_unchanged c.take_head.ensures.log_len_unchanged
 
 pub shape_of-added : goal.shape_of-added
 shape_of-added c = c.loop-rest.invariant.adds

@@ -1,6 +1,7 @@
 use Prim.Native.Nat.{◌+◌, ◌*◌}
 use native.Mathlib.Omega.{arith}
 use native.Mathlib.Nat.{le_refl}
+use mathlib.Core.Logic.{inl, ⊎_elim}
 use mathlib.Core.Path.{refl, sym, ◌∙◌}
 use lib.ListN.{length}
 use Rattle.unions.specs.PoolLaws.{next_row}
@@ -48,23 +49,27 @@ overflow_mul-p c = omega (arith, head-low c.args.letters c.byte_of-p.ensures c.b
 pub overflow_add-p : goal.overflow_add-p
 overflow_add-p c = omega (arith, head-low c.args.letters c.byte_of-p.ensures c.byte_of-a.ensures (c.requires.0.headed c.args.r c.requires.6), c.requires.0.fits.few)
 
-pub give-direct-requires : goal.give-direct-requires
-give-direct-requires c = (c.requires.0.noting, c.requires.1, c.requires.0.most, c.requires.0.fits.words, head-in-all c.requires.0 (c.byte_of.result * c.args.letters + c.byte_of-then-is_direct.result) (length c.args.new.now) (omega (arith, row_low c.args.letters c.byte_of.ensures (c.requires.0.ruled c.args.r c.requires.6).row, c.byte_of-then-is_direct.ensures, (c.requires.0.ruled c.args.r c.requires.6).above)) c.requires.0.alike, place-small (c.byte_of.result * c.args.letters + c.byte_of-then-is_direct.result) c.args.n (omega (arith, row_low c.args.letters c.byte_of.ensures (c.requires.0.ruled c.args.r c.requires.6).row, c.byte_of-then-is_direct.ensures, (c.requires.0.ruled c.args.r c.requires.6).above, c.requires.0.fits.few)) c.requires.0.fits.words, omega (arith, head-low c.args.letters c.byte_of-p.ensures c.byte_of-a.ensures (c.requires.0.headed c.args.r c.requires.6), c.requires.0.fits.few), head-in-all c.requires.0 (c.byte_of-p.result * c.args.letters + c.byte_of-a.result) (length c.args.all.now) (head-low c.args.letters c.byte_of-p.ensures c.byte_of-a.ensures (c.requires.0.headed c.args.r c.requires.6)) refl, head-in-added c.requires.0 (c.byte_of-p.result * c.args.letters + c.byte_of-a.result) (head-low c.args.letters c.byte_of-p.ensures c.byte_of-a.ensures (c.requires.0.headed c.args.r c.requires.6)), omega (arith, c.byte_of-p.ensures, (c.requires.0.owned c.args.r c.requires.6).0, c.requires.5), omega (arith, c.byte_of-a.ensures, (c.requires.0.owned c.args.r c.requires.6).1))
+pub give-requires : goal.give-requires
+give-requires c = (c.requires.0.noting, c.requires.1, c.requires.0.most, c.requires.0.fits.words, head-in-all c.requires.0 (c.byte_of.result * c.args.letters + c.byte_of-then-is_direct.result) (length c.args.new.now) (omega (arith, row_low c.args.letters c.byte_of.ensures (c.requires.0.ruled c.args.r c.requires.6).row, c.byte_of-then-is_direct.ensures, (c.requires.0.ruled c.args.r c.requires.6).above)) c.requires.0.alike, place-small (c.byte_of.result * c.args.letters + c.byte_of-then-is_direct.result) c.args.n (omega (arith, row_low c.args.letters c.byte_of.ensures (c.requires.0.ruled c.args.r c.requires.6).row, c.byte_of-then-is_direct.ensures, (c.requires.0.ruled c.args.r c.requires.6).above, c.requires.0.fits.few)) c.requires.0.fits.words, omega (arith, head-low c.args.letters c.byte_of-p.ensures c.byte_of-a.ensures (c.requires.0.headed c.args.r c.requires.6), c.requires.0.fits.few), head-in-all c.requires.0 (c.byte_of-p.result * c.args.letters + c.byte_of-a.result) (length c.args.all.now) (head-low c.args.letters c.byte_of-p.ensures c.byte_of-a.ensures (c.requires.0.headed c.args.r c.requires.6)) refl, head-in-added c.requires.0 (c.byte_of-p.result * c.args.letters + c.byte_of-a.result) (head-low c.args.letters c.byte_of-p.ensures c.byte_of-a.ensures (c.requires.0.headed c.args.r c.requires.6)), omega (arith, c.byte_of-p.ensures, (c.requires.0.owned c.args.r c.requires.6).0, c.requires.5), omega (arith, c.byte_of-a.ensures, (c.requires.0.owned c.args.r c.requires.6).1))
+
+pub returns-in_err-entries-clause-by_index : goal.returns-in_err-entries-clause-by_index
+returns-in_err-entries-clause-by_index c =
+    λ el g old es i now gr to. rw c.from_residual.ensures (⊎_elim inl (λ k. absurd (omega (arith, k.0))) (eloises-gives gr c.args.r c.requires.6 to to.pool (direct gr c.args.r c.requires.6 c.byte_of.ensures c.byte_of-then-is_direct.ensures (c.is_direct.ensures c.if-is_direct.true).1) c.byte_of-p.ensures c.byte_of-a.ensures refl c.first_of-first.ensures (c.is_direct.ensures c.if-is_direct.true).0 (rw c.in_err-entries.was at c.give.ensures.by_index)))
 
 pub returns-then-is_direct : goal.returns-then-is_direct
 returns-then-is_direct c =
     record {
-      by_index = (λ el g old es i now gr to. eloises-gives gr c.args.r c.requires.6 to to.pool (direct gr c.args.r c.requires.6 c.byte_of.ensures c.byte_of-then-is_direct.ensures (c.is_direct.ensures c.if-is_direct.true).1) c.byte_of-p.ensures c.byte_of-a.ensures refl c.first_of-first.ensures (c.is_direct.ensures c.if-is_direct.true).0 c.give-direct.ensures.by_index);
-      entries_bound = (c.give-direct.ensures.upper_bound, c.requires.2);
+      by_index = (λ el g old es i now gr to. eloises-gives gr c.args.r c.requires.6 to to.pool (direct gr c.args.r c.requires.6 c.byte_of.ensures c.byte_of-then-is_direct.ensures (c.is_direct.ensures c.if-is_direct.true).1) c.byte_of-p.ensures c.byte_of-a.ensures refl c.first_of-first.ensures (c.is_direct.ensures c.if-is_direct.true).0 (rw c.in_ok-entries.was at c.give.ensures.by_index));
+      entries_bound = (rw c.in_ok-entries.was at c.give.ensures.upper_bound, c.requires.2);
       all_len_unchanged = refl;
       keys_len_unchanged = refl;
       rests_len_unchanged = refl;
       hints_len_unchanged = refl;
       ends_len_unchanged = refl;
       stirred_len_unchanged = refl;
-      gains_len_unchanged = c.give-direct.ensures.gains_len_unchanged;
-      added_len_unchanged = c.give-direct.ensures.added_len_unchanged;
-      log_len_unchanged = c.give-direct.ensures.log_len_unchanged;
+      gains_len_unchanged = c.give.ensures.gains_len_unchanged;
+      added_len_unchanged = c.give.ensures.added_len_unchanged;
+      log_len_unchanged = c.give.ensures.log_len_unchanged;
     }
 
 pub more_of_rule-lines-requires : goal.more_of_rule-lines-requires
@@ -107,21 +112,25 @@ overflow_cast-r-2 c = omega (arith, c.requires.6, c.requires.0.some)
 pub overflow_add-r-2 : goal.overflow_add-r-2
 overflow_add-r-2 c = omega (arith, c.requires.6, c.requires.0.some)
 
-pub give-entries-requires : goal.give-entries-requires
-give-entries-requires c = (c.requires.0.noting, c.requires.1, c.requires.0.most, c.requires.0.fits.words, omega (arith, c.requires.0.fits.words, c.more_of_rule-lines.ensures.more_len_unchanged), omega arith, omega (arith, head-low c.args.letters c.byte_of-p.ensures c.byte_of-a.ensures (c.requires.0.headed c.args.r c.requires.6), c.requires.0.fits.few), head-in-all c.requires.0 (c.byte_of-p.result * c.args.letters + c.byte_of-a.result) _ (head-low c.args.letters c.byte_of-p.ensures c.byte_of-a.ensures (c.requires.0.headed c.args.r c.requires.6)) c.more_of_rule-lines.ensures.all_len_unchanged, head-in-added c.requires.0 (c.byte_of-p.result * c.args.letters + c.byte_of-a.result) (head-low c.args.letters c.byte_of-p.ensures c.byte_of-a.ensures (c.requires.0.headed c.args.r c.requires.6)), omega (arith, c.byte_of-p.ensures, (c.requires.0.owned c.args.r c.requires.6).0, c.requires.5), omega (arith, c.byte_of-a.ensures, (c.requires.0.owned c.args.r c.requires.6).1))
+pub give-requires-2 : goal.give-requires-2
+give-requires-2 c = (c.requires.0.noting, c.requires.1, c.requires.0.most, c.requires.0.fits.words, omega (arith, c.requires.0.fits.words, c.more_of_rule-lines.ensures.more_len_unchanged), omega arith, omega (arith, head-low c.args.letters c.byte_of-p.ensures c.byte_of-a.ensures (c.requires.0.headed c.args.r c.requires.6), c.requires.0.fits.few), head-in-all c.requires.0 (c.byte_of-p.result * c.args.letters + c.byte_of-a.result) _ (head-low c.args.letters c.byte_of-p.ensures c.byte_of-a.ensures (c.requires.0.headed c.args.r c.requires.6)) c.more_of_rule-lines.ensures.all_len_unchanged, head-in-added c.requires.0 (c.byte_of-p.result * c.args.letters + c.byte_of-a.result) (head-low c.args.letters c.byte_of-p.ensures c.byte_of-a.ensures (c.requires.0.headed c.args.r c.requires.6)), omega (arith, c.byte_of-p.ensures, (c.requires.0.owned c.args.r c.requires.6).0, c.requires.5), omega (arith, c.byte_of-a.ensures, (c.requires.0.owned c.args.r c.requires.6).1))
+
+pub returns-in_err-entries-2-clause-by_index : goal.returns-in_err-entries-2-clause-by_index
+returns-in_err-entries-2-clause-by_index c =
+    λ el g old es i now gr to. rw c.from_residual-in_err-entries-2.ensures (⊎_elim inl (λ k. absurd (omega (arith, k.0))) ((let m = c.more_of_rule-lines.ensures.by_index el g old es i (rule_of g c.args.r) gr.raises gr.owned.lettered (bytes gr c.args.r c.requires.6) (sound gr c.args.r c.requires.6) (omega (arith, gr.good.ranged.control)) gr.growth (gr.pops (rule_of g c.args.r) (there gr c.args.r c.requires.6)) (no-sets 16 0) to.pool in eloises-gives gr c.args.r c.requires.6 to m.0 m.1 c.byte_of-p.ensures c.byte_of-a.ensures refl c.first_of-first.ensures (sym c.has_state.ensures ∙ c.if-has_state.false) (rw c.in_err-entries-2.was at c.give-2.ensures.by_index))))
 
 pub returns : goal.returns
 returns c =
     record {
-      by_index = (λ el g old es i now gr to. (let m = c.more_of_rule-lines.ensures.by_index el g old es i (rule_of g c.args.r) gr.raises gr.owned.lettered (bytes gr c.args.r c.requires.6) (sound gr c.args.r c.requires.6) (omega (arith, gr.good.ranged.control)) gr.growth (gr.pops (rule_of g c.args.r) (there gr c.args.r c.requires.6)) (no-sets 16 0) to.pool in eloises-gives gr c.args.r c.requires.6 to m.0 m.1 c.byte_of-p.ensures c.byte_of-a.ensures refl c.first_of-first.ensures (sym c.has_state.ensures ∙ c.if-has_state.false) c.give-entries.ensures.by_index));
-      entries_bound = (c.give-entries.ensures.upper_bound, c.more_of_rule-lines.ensures.upper_bound);
+      by_index = (λ el g old es i now gr to. (let m = c.more_of_rule-lines.ensures.by_index el g old es i (rule_of g c.args.r) gr.raises gr.owned.lettered (bytes gr c.args.r c.requires.6) (sound gr c.args.r c.requires.6) (omega (arith, gr.good.ranged.control)) gr.growth (gr.pops (rule_of g c.args.r) (there gr c.args.r c.requires.6)) (no-sets 16 0) to.pool in eloises-gives gr c.args.r c.requires.6 to m.0 m.1 c.byte_of-p.ensures c.byte_of-a.ensures refl c.first_of-first.ensures (sym c.has_state.ensures ∙ c.if-has_state.false) (rw c.in_ok-entries-2.was at c.give-2.ensures.by_index)));
+      entries_bound = (rw c.in_ok-entries-2.was at c.give-2.ensures.upper_bound, c.more_of_rule-lines.ensures.upper_bound);
       all_len_unchanged = c.more_of_rule-lines.ensures.all_len_unchanged;
       keys_len_unchanged = c.more_of_rule-lines.ensures.keys_len_unchanged;
       rests_len_unchanged = c.more_of_rule-lines.ensures.rests_len_unchanged;
       hints_len_unchanged = c.more_of_rule-lines.ensures.hints_len_unchanged;
       ends_len_unchanged = refl;
       stirred_len_unchanged = refl;
-      gains_len_unchanged = c.give-entries.ensures.gains_len_unchanged;
-      added_len_unchanged = c.give-entries.ensures.added_len_unchanged;
-      log_len_unchanged = c.give-entries.ensures.log_len_unchanged;
+      gains_len_unchanged = c.give-2.ensures.gains_len_unchanged;
+      added_len_unchanged = c.give-2.ensures.added_len_unchanged;
+      log_len_unchanged = c.give-2.ensures.log_len_unchanged;
     }

@@ -15,54 +15,15 @@ bounds-active-w c = omega (arith, c.loop-w-test.true, c.requires.6)
 pub overflow_mul-w : goal.overflow_mul-w
 overflow_mul-w c = omega (arith, c.loop-w-test.true)
 
-pub take_word-counts-requires : goal.take_word-counts-requires
-take_word-counts-requires c = (kept-areas c.loop-w.invariant.kept c.requires.0, c.loop-w.invariant.kept.room, omega (arith, c.loop-w.invariant.kept.lined, c.loop-w.invariant.kept.keyed), c.requires.3, c.loop-w.invariant.kept.stirs ∙ c.requires.4, c.loop-w.invariant.kept.gaining ∙ c.requires.5, omega (arith, c.loop-w-test.true))
+pub take_word-requires : goal.take_word-requires
+take_word-requires c = (kept-areas c.loop-w.invariant.kept c.requires.0, c.loop-w.invariant.kept.room, omega (arith, c.loop-w.invariant.kept.lined, c.loop-w.invariant.kept.keyed), c.requires.3, c.loop-w.invariant.kept.stirs ∙ c.requires.4, c.loop-w.invariant.kept.gaining ∙ c.requires.5, omega (arith, c.loop-w-test.true))
 
-pub shape_of-all-then-size-counts : goal.shape_of-all-then-size-counts
-shape_of-all-then-size-counts c = c.take_word-counts.ensures.all_len_unchanged ∙ c.loop-w.invariant.kept.areas
-
-pub shape_of-keys-then-size-counts : goal.shape_of-keys-then-size-counts
-shape_of-keys-then-size-counts c = c.take_word-counts.ensures.keys_len_unchanged ∙ c.loop-w.invariant.kept.keyed
-
-pub shape_of-rests-then-size-counts : goal.shape_of-rests-then-size-counts
-shape_of-rests-then-size-counts c = c.take_word-counts.ensures.rests_len_unchanged ∙ c.loop-w.invariant.kept.resting
-
-pub shape_of-hints-then-size-counts : goal.shape_of-hints-then-size-counts
-shape_of-hints-then-size-counts c = c.take_word-counts.ensures.hints_len_unchanged ∙ c.loop-w.invariant.kept.hinting
-
-pub shape_of-ends-then-size-counts : goal.shape_of-ends-then-size-counts
-shape_of-ends-then-size-counts c = c.take_word-counts.ensures.ends_len_unchanged ∙ c.loop-w.invariant.kept.ending
-
-pub shape_of-stirred-then-size-counts : goal.shape_of-stirred-then-size-counts
-shape_of-stirred-then-size-counts c = c.take_word-counts.ensures.stirred_len_unchanged ∙ c.loop-w.invariant.kept.stirs
-
-pub shape_of-gains-then-size-counts : goal.shape_of-gains-then-size-counts
-shape_of-gains-then-size-counts c = c.take_word-counts.ensures.gains_len_unchanged ∙ c.loop-w.invariant.kept.gaining
-
-pub shape_of-added-then-size-counts : goal.shape_of-added-then-size-counts
-shape_of-added-then-size-counts c = c.take_word-counts.ensures.added_len_unchanged ∙ c.loop-w.invariant.kept.adds
-
-pub shape_of-log-then-size-counts : goal.shape_of-log-then-size-counts
-shape_of-log-then-size-counts c = c.take_word-counts.ensures.log_len_unchanged ∙ c.loop-w.invariant.kept.logs
-
-pub returns-then-size-counts : goal.returns-then-size-counts
-returns-then-size-counts c =
-    record {
-      by_index = wording-full c.loop-w.invariant c.take_word-counts.ensures.by_index c.if-size-counts.true;
-      entries_bound = (c.take_word-counts.ensures.entries_bound.0, omega (arith, c.take_word-counts.ensures.entries_bound.1, c.loop-w.invariant.kept.keyed));
-      all_len_unchanged = c.take_word-counts.ensures.all_len_unchanged ∙ c.loop-w.invariant.kept.areas;
-      keys_len_unchanged = c.take_word-counts.ensures.keys_len_unchanged ∙ c.loop-w.invariant.kept.keyed;
-      rests_len_unchanged = c.take_word-counts.ensures.rests_len_unchanged ∙ c.loop-w.invariant.kept.resting;
-      hints_len_unchanged = c.take_word-counts.ensures.hints_len_unchanged ∙ c.loop-w.invariant.kept.hinting;
-      ends_len_unchanged = c.take_word-counts.ensures.ends_len_unchanged ∙ c.loop-w.invariant.kept.ending;
-      stirred_len_unchanged = c.take_word-counts.ensures.stirred_len_unchanged ∙ c.loop-w.invariant.kept.stirs;
-      gains_len_unchanged = c.take_word-counts.ensures.gains_len_unchanged ∙ c.loop-w.invariant.kept.gaining;
-      added_len_unchanged = c.take_word-counts.ensures.added_len_unchanged ∙ c.loop-w.invariant.kept.adds;
-      log_len_unchanged = c.take_word-counts.ensures.log_len_unchanged ∙ c.loop-w.invariant.kept.logs;
-    }
+pub returns-in_err-counts-clause-by_index : goal.returns-in_err-counts-clause-by_index
+returns-in_err-counts-clause-by_index c =
+    λ el g old es i now gr off to. rw c.from_residual.ensures (wording-full c.loop-w.invariant (rw c.in_err-counts.was at c.take_word.ensures.by_index) (omega arith) el g old es i now gr off to)
 
 pub loop-w-preserved : goal.loop-w-preserved
-loop-w-preserved c = wording-on c.loop-w.invariant c.take_word-counts.ensures.by_index c.loop-w-test.true (omega (arith, c.if-size-counts.false)) c.take_word-counts.ensures.entries_bound.1 c.take_word-counts.ensures.all_len_unchanged c.take_word-counts.ensures.keys_len_unchanged c.take_word-counts.ensures.rests_len_unchanged c.take_word-counts.ensures.hints_len_unchanged c.take_word-counts.ensures.ends_len_unchanged c.take_word-counts.ensures.stirred_len_unchanged c.take_word-counts.ensures.gains_len_unchanged c.take_word-counts.ensures.added_len_unchanged c.take_word-counts.ensures.log_len_unchanged
+loop-w-preserved c = wording-on c.loop-w.invariant (rw c.in_ok-counts.was at c.take_word.ensures.by_index) c.loop-w-test.true (rw c.in_ok-counts.was at c.take_word.ensures.entries_bound).0 (rw c.in_ok-counts.was at c.take_word.ensures.entries_bound).1 c.take_word.ensures.all_len_unchanged c.take_word.ensures.keys_len_unchanged c.take_word.ensures.rests_len_unchanged c.take_word.ensures.hints_len_unchanged c.take_word.ensures.ends_len_unchanged c.take_word.ensures.stirred_len_unchanged c.take_word.ensures.gains_len_unchanged c.take_word.ensures.added_len_unchanged c.take_word.ensures.log_len_unchanged
 
 pub shape_of-all : goal.shape_of-all
 shape_of-all c = c.loop-w.invariant.kept.areas

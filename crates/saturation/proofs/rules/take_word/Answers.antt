@@ -56,51 +56,12 @@ returns-then-rulecount-r c =
       log_len_unchanged = c.loop-rest.invariant.kept.logs;
     }
 
-pub take_rule-counts-requires : goal.take_rule-counts-requires
-take_rule-counts-requires c = (kept-areas c.loop-rest.invariant.kept c.requires.0, c.loop-rest.invariant.kept.room, omega (arith, c.loop-rest.invariant.kept.lined, c.loop-rest.invariant.kept.keyed), c.requires.3, c.loop-rest.invariant.kept.stirs ∙ c.requires.4, c.loop-rest.invariant.kept.gaining ∙ c.requires.5, omega (arith, c.if-rulecount-r.false))
+pub take_rule-requires : goal.take_rule-requires
+take_rule-requires c = (kept-areas c.loop-rest.invariant.kept c.requires.0, c.loop-rest.invariant.kept.room, omega (arith, c.loop-rest.invariant.kept.lined, c.loop-rest.invariant.kept.keyed), c.requires.3, c.loop-rest.invariant.kept.stirs ∙ c.requires.4, c.loop-rest.invariant.kept.gaining ∙ c.requires.5, omega (arith, c.if-rulecount-r.false))
 
-pub shape_of-all-then-size-counts : goal.shape_of-all-then-size-counts
-shape_of-all-then-size-counts c = c.take_rule-counts.ensures.all_len_unchanged ∙ c.loop-rest.invariant.kept.areas
-
-pub shape_of-keys-then-size-counts : goal.shape_of-keys-then-size-counts
-shape_of-keys-then-size-counts c = c.take_rule-counts.ensures.keys_len_unchanged ∙ c.loop-rest.invariant.kept.keyed
-
-pub shape_of-rests-then-size-counts : goal.shape_of-rests-then-size-counts
-shape_of-rests-then-size-counts c = c.take_rule-counts.ensures.rests_len_unchanged ∙ c.loop-rest.invariant.kept.resting
-
-pub shape_of-hints-then-size-counts : goal.shape_of-hints-then-size-counts
-shape_of-hints-then-size-counts c = c.take_rule-counts.ensures.hints_len_unchanged ∙ c.loop-rest.invariant.kept.hinting
-
-pub shape_of-ends-then-size-counts : goal.shape_of-ends-then-size-counts
-shape_of-ends-then-size-counts c = c.take_rule-counts.ensures.ends_len_unchanged ∙ c.loop-rest.invariant.kept.ending
-
-pub shape_of-stirred-then-size-counts : goal.shape_of-stirred-then-size-counts
-shape_of-stirred-then-size-counts c = c.take_rule-counts.ensures.stirred_len_unchanged ∙ c.loop-rest.invariant.kept.stirs
-
-pub shape_of-gains-then-size-counts : goal.shape_of-gains-then-size-counts
-shape_of-gains-then-size-counts c = c.take_rule-counts.ensures.gains_len_unchanged ∙ c.loop-rest.invariant.kept.gaining
-
-pub shape_of-added-then-size-counts : goal.shape_of-added-then-size-counts
-shape_of-added-then-size-counts c = c.take_rule-counts.ensures.added_len_unchanged ∙ c.loop-rest.invariant.kept.adds
-
-pub shape_of-log-then-size-counts : goal.shape_of-log-then-size-counts
-shape_of-log-then-size-counts c = c.take_rule-counts.ensures.log_len_unchanged ∙ c.loop-rest.invariant.kept.logs
-
-pub returns-then-size-counts : goal.returns-then-size-counts
-returns-then-size-counts c =
-    record {
-      by_index = going-full c.loop-rest.invariant _ (omega (arith, c.loop-rest-test.true)) c.lowest_set.ensures c.take_rule-counts.ensures.by_index c.if-size-counts.true;
-      entries_bound = (c.take_rule-counts.ensures.entries_bound.0, omega (arith, c.take_rule-counts.ensures.entries_bound.1, c.loop-rest.invariant.kept.keyed));
-      all_len_unchanged = c.take_rule-counts.ensures.all_len_unchanged ∙ c.loop-rest.invariant.kept.areas;
-      keys_len_unchanged = c.take_rule-counts.ensures.keys_len_unchanged ∙ c.loop-rest.invariant.kept.keyed;
-      rests_len_unchanged = c.take_rule-counts.ensures.rests_len_unchanged ∙ c.loop-rest.invariant.kept.resting;
-      hints_len_unchanged = c.take_rule-counts.ensures.hints_len_unchanged ∙ c.loop-rest.invariant.kept.hinting;
-      ends_len_unchanged = c.take_rule-counts.ensures.ends_len_unchanged ∙ c.loop-rest.invariant.kept.ending;
-      stirred_len_unchanged = c.take_rule-counts.ensures.stirred_len_unchanged ∙ c.loop-rest.invariant.kept.stirs;
-      gains_len_unchanged = c.take_rule-counts.ensures.gains_len_unchanged ∙ c.loop-rest.invariant.kept.gaining;
-      added_len_unchanged = c.take_rule-counts.ensures.added_len_unchanged ∙ c.loop-rest.invariant.kept.adds;
-      log_len_unchanged = c.take_rule-counts.ensures.log_len_unchanged ∙ c.loop-rest.invariant.kept.logs;
-    }
+pub returns-in_err-counts-clause-by_index : goal.returns-in_err-counts-clause-by_index
+returns-in_err-counts-clause-by_index c =
+    λ el g old es i now gr off to. rw c.from_residual.ensures (going-full c.loop-rest.invariant _ (omega (arith, c.loop-rest-test.true)) c.lowest_set.ensures (rw c.in_err-counts.was at c.take_rule.ensures.by_index) (omega arith) el g old es i now gr off to)
 
 pub overflow_sub-rest : goal.overflow_sub-rest
 overflow_sub-rest c = omega (arith, c.loop-rest-test.true)
@@ -109,7 +70,7 @@ pub loop-rest-smaller : goal.loop-rest-smaller
 loop-rest-smaller c = cleared-falls _ (omega (arith, c.loop-rest-test.true))
 
 pub loop-rest-preserved : goal.loop-rest-preserved
-loop-rest-preserved c = going_on c.loop-rest.invariant _ (omega (arith, c.loop-rest-test.true)) c.lowest_set.ensures c.take_rule-counts.ensures.by_index (omega (arith, c.if-size-counts.false)) c.take_rule-counts.ensures.entries_bound.1 c.take_rule-counts.ensures.all_len_unchanged c.take_rule-counts.ensures.keys_len_unchanged c.take_rule-counts.ensures.rests_len_unchanged c.take_rule-counts.ensures.hints_len_unchanged c.take_rule-counts.ensures.ends_len_unchanged c.take_rule-counts.ensures.stirred_len_unchanged c.take_rule-counts.ensures.gains_len_unchanged c.take_rule-counts.ensures.added_len_unchanged c.take_rule-counts.ensures.log_len_unchanged
+loop-rest-preserved c = going_on c.loop-rest.invariant _ (omega (arith, c.loop-rest-test.true)) c.lowest_set.ensures (rw c.in_ok-counts.was at c.take_rule.ensures.by_index) (rw c.in_ok-counts.was at c.take_rule.ensures.entries_bound).0 (rw c.in_ok-counts.was at c.take_rule.ensures.entries_bound).1 c.take_rule.ensures.all_len_unchanged c.take_rule.ensures.keys_len_unchanged c.take_rule.ensures.rests_len_unchanged c.take_rule.ensures.hints_len_unchanged c.take_rule.ensures.ends_len_unchanged c.take_rule.ensures.stirred_len_unchanged c.take_rule.ensures.gains_len_unchanged c.take_rule.ensures.added_len_unchanged c.take_rule.ensures.log_len_unchanged
 
 pub shape_of-all : goal.shape_of-all
 shape_of-all c = c.loop-rest.invariant.kept.areas
