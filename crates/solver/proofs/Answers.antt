@@ -9,36 +9,29 @@ use lib.Dec.{eqb, leb}
 use borrow.Author.Tests.{eq-eqb, ne_eqb, leb-true}
 use Rattle.game.specs.Limits.{max_entries}
 use Rattle.game.specs.ListLaws.{both}
-use types.Run.{OneOf, miss}
-use denote.Enum.Declared.{tag_of}
-use Rattle.game.specs.contracts.game.Answer as AnswerIs
 use Rattle.game.specs.Game.{PushdownGame}
 use Rattle.game.specs.Held.{held}
 use Rattle.game.specs.GoodGame.{Good}
-use Rattle.game.specs.Outcome.{Outcome, done, refused, after, answer, said}
+use Rattle.game.specs.Outcome.{Outcome, done, refused, after, number, said}
 use Rattle.game.specs.Questions.{reading}
-use Rattle.game.specs.Stored.{padded, stored, held_sizes, Reports}
+use Rattle.game.specs.Stored.{padded, stored, held_sizes, as_stored, Reports}
+use Rattle.std.specs.Prelude.{Result, Err}
+use Rattle.game.specs.declared.refusal.Refusal.{Refusal}
+use Rattle.game.specs.declared.refusal.Question.TheVariants.{Areas}
 use Rattle.game.specs.declared.game.Game.{Game}
 use Rattle.game.specs.declared.game.Sizes.{Sizes}
-use Rattle.game.specs.declared.game.Reading.{Reading}
-use Rattle.game.specs.declared.game.Answer.{Answer}
-use Rattle.game.specs.declared.game.Answer.TheVariants.{Done as AnswerDone, Refused as AnswerRefused}
 use Rattle.table.specs.Table.{length_in_form, entry_stride}
 use Rattle.rounds.specs.Solving.{Solved, solving_game, solving_words}
 use Rattle.rounds.proofs.Solution.{in-entries}
-use Rattle.solver.specs.Leaving.{leaving, called, solve_call}
-use Rattle.solver.specs.Given.{Given, refused_as}
-use Rattle.solver.specs.declared.solving.Solution.{Solution}
-use Rattle.solver.specs.declared.solving.Solution.TheVariants.{Refused}
+use Rattle.solver.specs.Leaving.{leaving, called, solve_call, Answer}
+use Rattle.solver.specs.Given.{Given}
 
--- an answer of reading that is not done refuses whatever comes after it, and both areas are left zero
-refusal-left : {A : Type 0} (o : Outcome A) (a : Answer) → said a ≡ answer o → OneOf (1 ∷ []) (tag_of AnswerIs.the_type a) → (next : A → Outcome Solved)
-    → (table work : ℕ) → called (refused_as a) (replicate table 0) (replicate work 0) ≡ leaving (after o next) table work
+-- a refusal of reading refuses whatever comes after it, and both areas are left zero
+refusal-left : (o : Outcome PushdownGame) (refusal : Refusal) → said {A = Game} (Err refusal) ≡ as_stored o → (next : PushdownGame → Outcome Solved)
+    → (table work : ℕ) → called (Err refusal) (replicate table 0) (replicate work 0) ≡ leaving (after o next) table work
 unfolding after leaving
-refusal-left (done x) AnswerDone e t next table work = absurd (miss (1 ∷ []) 0 tt t)
-refusal-left (refused n p) AnswerDone e t next table work = absurd (miss (1 ∷ []) 0 tt t)
-refusal-left (done x) (AnswerRefused q k) e t next table work = absurd (let z : ◌≡◌ {A = ℕ} 0 1 = cc in omega arith)
-refusal-left (refused n p) (AnswerRefused q k) e t next table work = cc
+refusal-left (done x) refusal e next table work = absurd (let z : ◌≡◌ {A = ℕ} 0 1 = cc in omega arith)
+refusal-left (refused n p) refusal e next table work = cc
 
 module _ (file : List ℕ) (t w : ℕ) {table : List ℕ} (zeros : table ≡ replicate t 0) where
   long : length table ≡ t
@@ -46,21 +39,21 @@ module _ (file : List ℕ) (t w : ℕ) {table : List ℕ} (zeros : table ≡ rep
 
   -- refusals: both areas are zero
   module _ {work : List ℕ} (others : work ≡ replicate w 0) where
-    pub no-file : (r : Reading) → Reports (reading file) r → (a : Answer) → a ≡ r.answer → OneOf (1 ∷ []) (tag_of AnswerIs.the_type a)
-        → (s : Solution) → s ≡ refused_as a → called s table work ≡ solve_call file t w
+    pub no-file : (r : Result Game Refusal) → Reports (reading file) r → (refusal : Refusal) → r ≡ Err refusal
+        → called (Err refusal) table work ≡ solve_call file t w
     unfolding solve_call solving_words
-    no-file r h a e k s f = rw (f, zeros, others) (refusal-left (reading file) a (ap said e ∙ h.answers) k _ t w)
+    no-file r h refusal e = rw (zeros, others) (refusal-left (reading file) refusal (ap said (sym e) ∙ h) _ t w)
 
     module _ (g : PushdownGame) (read : reading file ≡ done g) where
       -- 10 is answered no
-      no_lengths : (eqb t w && length_in_form t) ≡ false → called (Refused 10 0) table work ≡ solve_call file t w
+      no_lengths : (eqb t w && length_in_form t) ≡ false → called (Err (record { question = Areas; place = 0 })) table work ≡ solve_call file t w
       unfolding solve_call solving_words after leaving
       no_lengths b = rw (zeros, others, read, b)
 
-      pub unequal : (length table ≡ w → ⊥) → called (Refused 10 0) table work ≡ solve_call file t w
+      pub unequal : (length table ≡ w → ⊥) → called (Err (record { question = Areas; place = 0 })) table work ≡ solve_call file t w
       unequal ne = no_lengths (ap (◌&& length_in_form t) (ne_eqb t w (λ e. ne (long ∙ e))))
 
-      pub out-of-form : length table ≡ w → length_in_form (length table) ≡ false → called (Refused 10 0) table work ≡ solve_call file t w
+      pub out-of-form : length table ≡ w → length_in_form (length table) ≡ false → called (Err (record { question = Areas; place = 0 })) table work ≡ solve_call file t w
       out-of-form e b = no_lengths (ap (◌&& length_in_form t) (eq-eqb t w (sym long ∙ e)) ∙ rw long at b)
 
   -- both are passed

@@ -20,9 +20,8 @@ use Rattle.noting.specs.Signs.{Reads}
 use Rattle.saturation.specs.Ground.{Areas}
 use Rattle.saturation.specs.Resting.{Resting, RoundTaken}
 use Rattle.unions.specs.Ranks.{Noted, Sized}
-use Rattle.solver.specs.Leaving.{leaving, called}
+use Rattle.solver.specs.Leaving.{leaving, called, solved_with}
 use Rattle.solver.specs.Given.{solving_rounds}
-use Rattle.solver.specs.declared.solving.Solution.TheVariants.{Solved as SolvedWith}
 use Rattle.solver.proofs.RoundOrder.{Order, order-zero, order-next, left-solved, left-last, left-full, next-same, length-settled, length-unsettled}
 
 -- the areas rest at round i
@@ -131,7 +130,7 @@ module _ {el : List ℕ} {g : PushdownGame} {m n heads abelard letters rulecount
         }
 
     pub ends-settled : (table work words : ℕ) → words ≡ work
-        → called (SolvedWith entries' i) (table_words es (m - length es)) (replicate words 0) ≡ leaving (solving_rounds g m) table work
+        → called (solved_with entries' i) (table_words es (m - length es)) (replicate words 0) ≡ leaving (solving_rounds g m) table work
     ends-settled table work words e = rw e (left-solved g m i w.order good table work entries' is-settled (table_words es (m - length es)) (same ∙ counted) refl)
 
   -- something was

@@ -22,9 +22,8 @@ use Rattle.rounds.proofs.RoundLaws.{round-ranged}
 use Rattle.rounds.specs.SolvingLaws.{Unsettled}
 use Rattle.rounds.proofs.Reported.{latest-is}
 use Rattle.rounds.proofs.GrownRound.{settled_same, unsettled-longer}
-use Rattle.solver.specs.Leaving.{leaving, called}
+use Rattle.solver.specs.Leaving.{leaving, called, solved_with}
 use Rattle.solver.specs.Given.{solving_rounds}
-use Rattle.solver.specs.declared.solving.Solution.TheVariants.{Solved as SolvedWith}
 
 pub record Order (g : PushdownGame) (n i : ℕ) : Type 0 where
   pub left : ℕ
@@ -110,7 +109,7 @@ module _ (g : PushdownGame) (n : ℕ) where
     -- what is returned and left at each end
     pub left-solved : Good g → (table work count : ℕ) → settled g (round_table g i) ≡ true → (words : List ℕ) → count ≡ length (round_table g i)
         → words ≡ table_words (round_table g i) (n - length (round_table g i))
-        → called (SolvedWith count i) words (replicate work 0) ≡ leaving (solving_rounds g n) table work
+        → called (solved_with count i) words (replicate work 0) ≡ leaving (solving_rounds g n) table work
     unfolding solving_rounds leaving after
     left-solved good table work count h words counted stands = rw (ends-settled h, counted, stands, latest-is g good i t.first)
 

@@ -15,7 +15,7 @@ use Rattle.game.specs.Limits.{max_rounds}
 use Rattle.game.specs.Game.{PushdownGame}
 use Rattle.game.specs.GoodGame.{Good}
 use Rattle.game.specs.ListLaws.{below_suc, clash}
-use Rattle.game.specs.Outcome.{Outcome, done, refused, after}
+use Rattle.game.specs.Outcome.{Outcome, done, refused, after, number}
 use Rattle.table.specs.Table.{Entry}
 use Rattle.table.specs.Pairwise.{Ascending, Pairwise}
 use Rattle.rounds.specs.Rounds.{round_zero, target_entry, next_round, candidates, settled}
@@ -27,23 +27,23 @@ use Rattle.rounds.proofs.Reported.{latest-is}
 use Rattle.rounds.specs.Growing.{growing, partly}
 use Rattle.rounds.proofs.GrownRound.{ended, same-settled, other-unsettled, over, within}
 use Rattle.rounds.specs.Filled.{Stored, Filled, number_of}
-use Rattle.solver.specs.Leaving.{leaving, called}
+use Rattle.solver.specs.Leaving.{leaving, called, solved_with, Answer}
+use Rattle.std.specs.Prelude.{Err}
+use Rattle.game.specs.declared.refusal.Refusal.{Refusal}
 use Rattle.solver.specs.Given.{solving_rounds}
-use Rattle.solver.specs.declared.solving.Solution.{Solution}
-use Rattle.solver.specs.declared.solving.Solution.TheVariants.{Solved as SolvedWith, Refused}
 
 -- what is left, by lengths that are equal
 pub leaving-at : (o : Outcome Solved) {a b c d : ℕ} → a ≡ c → b ≡ d → leaving o a b ≡ leaving o c d
 leaving-at o p q = rw (p, q)
 
-pub cleared_at : (s : Solution) (table : List ℕ) {work : List ℕ} {a b : ℕ} → work ≡ replicate a 0 → a ≡ b
+pub cleared_at : (s : Answer) (table : List ℕ) {work : List ℕ} {a b : ℕ} → work ≡ replicate a 0 → a ≡ b
     → called s table work ≡ called s table (replicate b 0)
 cleared_at s table e p = rw (e, p)
 
-pub refused-left : (question place : ℕ) {table work : List ℕ} (a b : ℕ) → table ≡ replicate a 0 → work ≡ replicate b 0
-    → called (Refused question place) table work ≡ leaving (refused question place) a b
+pub refused-left : (refusal : Refusal) {table work : List ℕ} (a b : ℕ) → table ≡ replicate a 0 → work ≡ replicate b 0
+    → called (Err refusal) table work ≡ leaving (refused (number refusal.question) refusal.place) a b
 unfolding leaving
-refused-left question place a b e f = rw (e, f)
+refused-left refusal a b e f = rw (e, f)
 
 -- what the code answers of a round, by the number that stands for it: the number of entries as it was, or another
 pub same-number : (n count : ℕ) (result : Option ℕ) → option_eq eqb result (Some count) ≡ true → number_of n result ≡ count
@@ -152,7 +152,7 @@ module _ (g : PushdownGame) (n : ℕ) where
 
     -- what is returned and left at each end
     left-solved : Good g → (table work : ℕ) → settled g (round_table g i) ≡ true → (words' : List ℕ) → Stored n words' count (round_table g i)
-        → called (SolvedWith count i) words' (replicate work 0) ≡ leaving (solving_rounds g n) table work
+        → called (solved_with count i) words' (replicate work 0) ≡ leaving (solving_rounds g n) table work
     unfolding solving_rounds leaving after
     left-solved good table work h words' st =
         rw (ends-settled h, st.counted, st.stands, latest-is g good i t.first)
@@ -183,7 +183,7 @@ module _ (g : PushdownGame) (n : ℕ) where
           other-unsettled g (round_table g i) n (suc i) asc t.stored.fits words' next filled (λ e. ne (e ∙ sym t.stored.counted))
 
       pub turn-settled : next ≡ count → (table work : ℕ)
-          → called (SolvedWith count i) words' (replicate work 0) ≡ leaving (solving_rounds g n) table work
+          → called (solved_with count i) words' (replicate work 0) ≡ leaving (solving_rounds g n) table work
       turn-settled e table work =
           let same = same-settled g (round_table g i) n (suc i) asc t.stored.fits words' next filled (e ∙ t.stored.counted) in
           left-solved good table work same.0 words' (rw e at same.1)

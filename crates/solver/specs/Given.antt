@@ -6,14 +6,10 @@ use Rattle.game.specs.Held.{Held}
 use Rattle.game.specs.Outcome.{Outcome, done, after}
 use Rattle.game.specs.Stored.{target_words}
 use Rattle.game.specs.declared.game.Sizes.{Sizes}
-use Rattle.game.specs.declared.game.Answer.{Answer}
-use Rattle.game.specs.declared.game.Answer.TheVariants.{Done as AnswerDone, Refused as AnswerRefused}
 use Rattle.table.specs.Table.{Entry}
 use Rattle.rounds.specs.Rounds.{round_zero}
 use Rattle.rounds.specs.Solving.{Solved, rounds_from, solved_of}
 use Rattle.game.specs.Limits.{max_rounds}
-use Rattle.solver.specs.declared.solving.Solution.{Solution}
-use Rattle.solver.specs.declared.solving.Solution.TheVariants.{Solved as SolvedWith, Refused}
 
 pub record Given (g : PushdownGame) (sizes : Sizes) (rules targets : List ℕ) : Type 0 where
   pub held : Held g sizes rules
@@ -24,8 +20,3 @@ pub record Given (g : PushdownGame) (sizes : Sizes) (rules targets : List ℕ) :
 -- what the rounds after round 0 answer
 unfoldable pub solving_rounds : PushdownGame → ℕ → Outcome Solved
 solving_rounds g n = after (rounds_from g n max_rounds 0 (round_zero g)) (λ (table : List Entry). done (solved_of n table))
-
--- a refusal of a question of reading, as the answer of solving
-abbrev pub refused_as : Answer → Solution
-refused_as (AnswerRefused question place) = Refused question place
-refused_as AnswerDone = SolvedWith 0 0

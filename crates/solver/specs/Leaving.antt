@@ -1,9 +1,9 @@
 -- What a call of solving returns and leaves in both areas: document 01, 'The questions'.
-use Rattle.std.specs.Prelude.{ℕ, List, replicate}
-use Rattle.game.specs.Outcome.{Outcome, done, refused}
+use Rattle.std.specs.Prelude.{ℕ, List, replicate, Result, Ok, Err}
+use Rattle.game.specs.declared.refusal.Refusal.{Refusal}
+use Rattle.game.specs.Outcome.{Outcome, done, refused, number}
 use Rattle.rounds.specs.Solving.{Solved, solving_words}
-use Rattle.solver.specs.declared.solving.Solution.{Solution}
-use Rattle.solver.specs.declared.solving.Solution.TheVariants.{Solved as SolvedWith, Refused}
+use Rattle.solver.specs.declared.solving.Solved.{Solved as SolvedIs}
 
 -- "Solving returns entries and rounds"
 pub record Report : Type 0 where
@@ -27,10 +27,17 @@ leaving (refused number place) table work =
 unfoldable pub solve_call : List ℕ → ℕ → ℕ → Call
 solve_call file table work = leaving (solving_words file table work) table work
 
--- The values of document 01 that each case of the code's answer stands for, with what the areas hold.
-abbrev pub answered : Solution → Outcome Report
-answered (SolvedWith entries rounds) = done (record { entries = entries; rounds = rounds })
-answered (Refused question place) = refused question place
+-- what the code answers of entries and rounds
+abbrev pub Answer : Type 0
+Answer = Result SolvedIs Refusal
 
-abbrev pub called : Solution → List ℕ → List ℕ → Call
+abbrev pub solved_with : ℕ → ℕ → Answer
+solved_with entries rounds = Ok (record { entries = entries; rounds = rounds })
+
+-- The values of document 01 that each case of the code's answer stands for, with what the areas hold.
+abbrev pub answered : Answer → Outcome Report
+answered (Ok s) = done (record { entries = s.entries; rounds = s.rounds })
+answered (Err refusal) = refused (number refusal.question) refusal.place
+
+abbrev pub called : Answer → List ℕ → List ℕ → Call
 called s table work = record { answer = answered s; table = table; work = work }

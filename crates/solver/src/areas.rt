@@ -9,8 +9,8 @@ ghost use Rattle.solver.specs.Given.{Given};
 ghost use Rattle.solver.specs.Rooms.{Numbers, Few, Narrow};
 
 use crate::saturating::rounds_in;
-use crate::solving::{Solution, walk_rounds};
-use game::Sizes;
+use crate::solving::{Solved, walk_rounds};
+use game::{Refusal, Sizes};
 use unions::Numbering;
 
 // How many heads of control states there may be.
@@ -24,7 +24,7 @@ pub fn rounds_by(
     numbering: Numbering,
     table: &mut [u32],
     work: &mut [u32],
-) -> Solution
+) -> Result<Solved, Refusal>
     requires { ((g : PushdownGame) × Given g sizes rules.now targets.now) × (length table.old ≡ length work.old) × (length table.old ≤ 6144)
         × ((q : ℕ) → q < 32 → get_or numbering.numbers q 0 < 1024) }
     ensures { (g : PushdownGame) (m : ℕ) → Given g sizes rules.now targets.now → table.old ≡ replicate (m * 3) 0
@@ -118,7 +118,7 @@ fn few_rounds(
     n: usize,
     table: &mut [u32],
     work: &mut [u32],
-) -> Solution
+) -> Result<Solved, Refusal>
     requires { ((g : PushdownGame) × Given g sizes rules.now targets.now) × (length table.old ≡ length work.old) × (length table.old ≤ 6144)
         × (heads ≡ sizes.states * sizes.letters) × Numbers elements states.now numbers.now sizes.letters heads × (heads ≤ 2048) × (n ≤ 1) × (heads * n ≤ 256) × (heads ≤ 256) }
     ensures { (g : PushdownGame) (m : ℕ) → Given g sizes rules.now targets.now → table.old ≡ replicate (m * 3) 0
@@ -167,7 +167,7 @@ fn some_rounds(
     n: usize,
     table: &mut [u32],
     work: &mut [u32],
-) -> Solution
+) -> Result<Solved, Refusal>
     requires { ((g : PushdownGame) × Given g sizes rules.now targets.now) × (length table.old ≡ length work.old) × (length table.old ≤ 6144)
         × (heads ≡ sizes.states * sizes.letters) × Numbers elements states.now numbers.now sizes.letters heads × (heads ≤ 2048) × (n ≤ 4) × (heads * n ≤ 1024) × (heads ≤ 1024) }
     ensures { (g : PushdownGame) (m : ℕ) → Given g sizes rules.now targets.now → table.old ≡ replicate (m * 3) 0
@@ -216,7 +216,7 @@ fn many_rounds(
     n: usize,
     table: &mut [u32],
     work: &mut [u32],
-) -> Solution
+) -> Result<Solved, Refusal>
     requires { ((g : PushdownGame) × Given g sizes rules.now targets.now) × (length table.old ≡ length work.old) × (length table.old ≤ 6144)
         × (heads ≡ sizes.states * sizes.letters) × Numbers elements states.now numbers.now sizes.letters heads × (heads ≤ 2048) × (n ≤ 16) × (heads * n ≤ 10240) }
     ensures { (g : PushdownGame) (m : ℕ) → Given g sizes rules.now targets.now → table.old ≡ replicate (m * 3) 0

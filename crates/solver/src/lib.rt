@@ -9,4 +9,4 @@ mod areas;
 mod saturating;
 mod solving;
 
-pub use solving::{Solution, solve};
+pub use solving::{Solved, solve};

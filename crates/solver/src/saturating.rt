@@ -10,14 +10,13 @@ ghost use Rattle.noting.specs.Signs.{Reads};
 ghost use Rattle.saturation.specs.Ground.{Areas};
 ghost use Rattle.saturation.specs.Resting.{Resting};
 ghost use Rattle.unions.specs.Ranks.{Sized, Noted};
-ghost use Rattle.solver.specs.declared.solving.Solution.TheVariants.{Solved as SolvedWith};
-ghost use Rattle.solver.specs.Leaving.{leaving, called};
+ghost use Rattle.solver.specs.Leaving.{leaving, solved_with, called};
 ghost use Rattle.solver.specs.Given.{Given, solving_rounds};
 ghost use Rattle.solver.specs.Rooms.{Numbers, Rooms, Blanks, Few};
 
-use crate::solving::{Solution, give_up};
+use crate::solving::{Solved, give_up};
 use family::raising_table;
-use game::{Game, Sizes};
+use game::{Game, Question, Refusal, Sizes};
 use noting::{mark_rules, note_targets, set_masks};
 use saturation::{Counts, link, take_round};
 use table::EntryWords;
@@ -43,7 +42,7 @@ pub fn rounds_in(
     rests: &mut [u32],
     hints: &mut [u32],
     firsts: &mut [usize],
-) -> Solution
+) -> Result<Solved, Refusal>
     requires { ((g : PushdownGame) × Given g sizes rules.now targets.now) × (length table.old ≡ length work.old) × (length table.old ≤ 6144)
         × (heads ≡ sizes.states * sizes.letters) × Numbers elements states.now numbers.now sizes.letters heads
         × Rooms heads n all.old new.old added.old ends.old keys.old rests.old hints.old × (sizes.control * sizes.letters ≤ length firsts.old) }
@@ -79,7 +78,7 @@ pub fn rounds_in(
         size,
         &mut news,
     ) else {
-        return give_up(table, work, 11, 0);
+        return give_up(table, work, Question::Entries.at(0));
     };
     set_masks(
         elements, states, letters, heads, n, all, new, &mut fresh, &mut alive,
@@ -117,7 +116,7 @@ fn rounds_on(
     first: usize,
     news: &mut [u64],
     readers: &[u64],
-) -> Solution
+) -> Result<Solved, Refusal>
     requires { Areas sizes.letters heads n sizes.rulecount (length table.old / 3) rules.now states.now numbers.now all.old new.old keys.old rests.old hints.old fresh.old alive.old ends.old added.old log.old raising.now
         × (first ≤ length table.old / 3) × (sizes.control ≤ 24) × (sizes.control * sizes.letters ≤ heads)
         × (sizes.control * sizes.letters ≤ length firsts.now) × (256 ≤ length nexts.now) × Climbs nexts.now sizes.rulecount × (sizes.control ≤ sizes.states) × (sizes.states ≤ 32) × (sizes.states * sizes.letters ≤ heads)
@@ -174,9 +173,9 @@ fn rounds_on(
             &mut held,
         ) else {
             if Game::MAX_ROUNDS <= i {
-                return give_up(table, log, 12, i as usize + 1);
+                return give_up(table, log, Question::Rounds.at(i as usize + 1));
             }
-            return give_up(table, log, 11, i as usize + 1);
+            return give_up(table, log, Question::Entries.at(i as usize + 1));
         };
         if next.entries == counts.entries {
             return settle(
@@ -193,7 +192,7 @@ fn rounds_on(
             );
         }
         if Game::MAX_ROUNDS <= i {
-            return give_up(table, log, 12, i as usize + 1);
+            return give_up(table, log, Question::Rounds.at(i as usize + 1));
         }
         oldest = older;
         older = counts.entries;
@@ -238,17 +237,17 @@ fn settle(
     letters: usize,
     heads: usize,
     n: usize,
-) -> Solution
+) -> Result<Solved, Refusal>
     requires { Sized letters heads n entries states.now all.now places.old log.old }
     ensures by_index { (el : List ℕ) (g : PushdownGame) (es : List Entry) (m : ℕ)
         → Noted el g n letters heads states.now all.now log.old entries es m
         → table.old ≡ replicate (m * 3) 0
-        → called result table.new log.new ≡ called (SolvedWith entries rounds) (table_words es (m - length es)) (replicate (length log.old) 0) }
+        → called result table.new log.new ≡ called (solved_with entries rounds) (table_words es (m - length es)) (replicate (length log.old) 0) }
     ensures table_len_unchanged { length table.new ≡ length table.old }
     ensures log_len_unchanged { length log.new ≡ length log.old }
     ensures places_len_unchanged { length places.new ≡ length places.old }
 {
     write_entries(table, log, entries, all, places, states, letters, heads, n);
     log.fill(0);
-    Solution::Solved { entries, rounds }
+    Ok(Solved { entries, rounds })
 }

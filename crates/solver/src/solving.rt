@@ -3,63 +3,49 @@ ghost use Rattle.std.specs.Prelude.{◌≡◌, [], map, ℕ, ◌+◌, ◌*◌, �
 ghost use Rattle.game.specs.Game.{PushdownGame};
 ghost use Rattle.game.specs.GoodGame.{Good};
 ghost use Rattle.game.specs.Held.{Held, Safe};
-ghost use Rattle.game.specs.Outcome.{refused};
+ghost use Rattle.game.specs.Outcome.{refused, number};
 ghost use Rattle.game.specs.Stored.{stored};
 ghost use Rattle.rounds.specs.Rounds.{round_zero, target_entry};
 ghost use Rattle.rounds.specs.Solving.{solving_game};
 ghost use Rattle.rounds.specs.Growing.{growing, partly};
 ghost use Rattle.rounds.specs.Filled.{Stored, Filled, number_of};
 ghost use Rattle.solver.specs.Leaving.{leaving, called, solve_call};
-ghost use Rattle.solver.specs.Given.{Given, solving_rounds, refused_as};
+ghost use Rattle.solver.specs.Given.{Given, solving_rounds};
 
 use crate::areas::rounds_by;
-use game::{Answer, Game, Sizes};
+use game::{Game, Question, Refusal, Sizes};
 use rounds::insert;
 use table::{EntryWords, is_length};
 use unions::elements_of;
 use walk::take_wide;
 
-// Entries and rounds, or the number of the question that was answered no, and its place.
-#[derive(Clone, Copy)]
-pub enum Solution {
-    Solved { entries: usize, rounds: u32 },
-    Refused { question: u8, place: usize },
+// What solving answers.
+#[derive(Clone, Copy, Debug, PartialEq, Eq)]
+pub struct Solved {
+    pub entries: usize,
+    pub rounds: u32,
 }
 
-// Solves the game that a file describes. The table is cleared first, and nothing is read of the work area before it is written, so the
-// answer does not depend on what they held. Afterwards the table has the entries in order and the work area is zero; after a refusal both
-// are zero.
-pub fn solve(file: &[u8], table: &mut [u32], work: &mut [u32]) -> Solution
+// Solves the game that a file describes. Both areas are cleared first, so the answer does not depend on what they held. Afterwards the
+// table has the entries in order and the work area is zero; after a refusal both are zero.
+pub fn solve(file: &[u8], table: &mut [u32], work: &mut [u32]) -> Result<Solved, Refusal>
     ensures { called result table.new work.new
         ≡ solve_call file.now (length table.old) (length work.old) }
 {
     table.fill(0);
-    let reading = Game::read(file);
-    let answer = reading.answer;
-    let Answer::Done = answer else {
-        work.fill(0);
-        return refusal(answer);
-    };
+    work.fill(0);
+    let game = Game::read(file)?;
     if table.len() != work.len() {
-        work.fill(0);
-        return Solution::Refused {
-            question: 10,
-            place: 0,
-        };
+        return Err(Question::Areas.at(0));
     }
     if !is_length(table.len()) {
-        work.fill(0);
-        return Solution::Refused {
-            question: 10,
-            place: 0,
-        };
+        return Err(Question::Areas.at(0));
     }
-    let game = reading.game;
     solve_game(game, table, work)
 }
 
 // The same for a game that was read, over cleared areas of equal length.
-fn solve_game(game: Game, table: &mut [u32], work: &mut [u32]) -> Solution
+fn solve_game(game: Game, table: &mut [u32], work: &mut [u32]) -> Result<Solved, Refusal>
     requires { ((g : PushdownGame) × (game ≡ stored g) × Good g) × (length table.old ≡ length work.old) × (length table.old ≤ 6144) }
     ensures { (g : PushdownGame) (n : ℕ) → game ≡ stored g → Good g → table.old ≡ replicate (n * 3) 0
         → called result table.new work.new ≡ leaving (solving_game g n) (length table.old) (length work.old) }
@@ -77,7 +63,7 @@ fn all_rounds(
     targets: &[u32],
     table: &mut [u32],
     work: &mut [u32],
-) -> Solution
+) -> Result<Solved, Refusal>
     requires { ((g : PushdownGame) × Given g sizes rules.now targets.now) × (length table.old ≡ length work.old) × (length table.old ≤ 6144) }
     ensures { (g : PushdownGame) (n : ℕ) → Given g sizes rules.now targets.now
         → table.old ≡ replicate (n * 3) 0
@@ -94,14 +80,14 @@ pub fn walk_rounds(
     targets: &[u32],
     table: &mut [u32],
     work: &mut [u32],
-) -> Solution
+) -> Result<Solved, Refusal>
     requires { ((g : PushdownGame) × Given g sizes rules.now targets.now) × (length table.old ≡ length work.old) }
     ensures { (g : PushdownGame) (n : ℕ) → Given g sizes rules.now targets.now
         → table.old ≡ replicate (n * 3) 0
         → called result table.new work.new ≡ leaving (solving_game g n) (length table.old) (length work.old) }
 {
     let Some(first) = round_zero(sizes, rules, targets, table) else {
-        return give_up(table, work, 11, 0);
+        return give_up(table, work, Question::Entries.at(0));
     };
     rounds_from(sizes, rules, table, work, first)
 }
@@ -135,7 +121,7 @@ fn rounds_from(
     table: &mut [u32],
     work: &mut [u32],
     first: usize,
-) -> Solution
+) -> Result<Solved, Refusal>
     requires { Safe sizes rules.now × (0 < sizes.letters) × (length table.old ≡ length work.old) × (first * 3 ≤ length table.old) }
     ensures { (g : PushdownGame) (n : ℕ) → Held g sizes rules.now → Good g → Stored n table.old first (round_zero g)
         → called result table.new work.new ≡ leaving (solving_rounds g n) (length table.old) (length work.old) }
@@ -147,16 +133,16 @@ fn rounds_from(
         let next = take_wide(sizes, rules, work, table, count, i + 1);
         if next == Some(count) {
             work.fill(0);
-            return Solution::Solved {
+            return Ok(Solved {
                 entries: count,
                 rounds: i,
-            };
+            });
         }
         if Game::MAX_ROUNDS <= i {
-            return give_up(table, work, 12, i as usize + 1);
+            return give_up(table, work, Question::Rounds.at(i as usize + 1));
         }
         let Some(entries) = next else {
-            return give_up(table, work, 11, i as usize + 1);
+            return give_up(table, work, Question::Entries.at(i as usize + 1));
         };
         count = entries;
         i += 1;
@@ -164,27 +150,13 @@ fn rounds_from(
 }
 
 // Clears the table as far as it was begun, and the work area, and refuses.
-pub fn give_up(begun: &mut [u32], work: &mut [u32], question: u8, place: usize) -> Solution
+pub fn give_up(begun: &mut [u32], work: &mut [u32], refusal: Refusal) -> Result<Solved, Refusal>
     ensures work_after { called result begun.new work.new
-        ≡ leaving (refused question place) (length begun.old) (length work.old) }
+        ≡ leaving (refused (number refusal.question) refusal.place) (length begun.old) (length work.old) }
     ensures begun_len_unchanged { length begun.new ≡ length begun.old }
     ensures work_len_unchanged { length work.new ≡ length work.old }
 {
     begun.fill(0);
     work.fill(0);
-    Solution::Refused { question, place }
-}
-
-// A refusal by a question of reading. It is called with a refusal only: `solve` goes on where the answer is done, so no call reaches
-// the other arm, which is there because a match has all cases.
-fn refusal(answer: Answer) -> Solution
-    ensures { result ≡ refused_as answer }
-{
-    match answer {
-        Answer::Refused { question, place } => Solution::Refused { question, place },
-        Answer::Done => Solution::Solved {
-            entries: 0,
-            rounds: 0,
-        },
-    }
+    Err(refusal)
 }

@@ -16,7 +16,7 @@ pub note_targets-requires : goal.note_targets-requires
 note_targets-requires c = (let b = bounded c.requires.0.1 in (omega (arith, c.requires.1), omega (arith, c.requires.2), b.targets-few, b.targets-fit, c.requires.4.wide, c.requires.4.small, c.requires.5.few, c.requires.5.words, heads-in c.requires.5 _ refl, c.requires.5.alike, b.letters-few, refl))
 
 pub returns-in_default : goal.returns-in_default
-returns-in_default c = (λ g m given zeros few blanks. ⊎_elim (λ k. c.give_up.ensures.work_after ∙ leaving-at _ refl c.note_targets.ensures.log_len_unchanged ∙ sym (zero-over g m (omega (arith, k.1, room-is m _ zeros)) _ _)) (λ k. absurd (omega (arith, k.0))) ((rw c.in_default.is at c.note_targets.ensures.starts) g few.el _ _ _ _ (held-targets given) given.good few.are (layout_of given few c.requires.5.words) (lettered given) (heads-are given c.requires.3) (targeted given) (bare given _ _ blanks.alls) (bare given _ _ blanks.news)))
+returns-in_default c = (λ g m given zeros few blanks. ⊎_elim (λ k. (rw c.at.ensures at c.give_up.ensures.work_after) ∙ leaving-at _ refl c.note_targets.ensures.log_len_unchanged ∙ sym (zero-over g m (omega (arith, k.1, room-is m _ zeros)) _ _)) (λ k. absurd (omega (arith, k.0))) ((rw c.in_default.is at c.note_targets.ensures.starts) g few.el _ _ _ _ (held-targets given) given.good few.are (layout_of given few c.requires.5.words) (lettered given) (heads-are given c.requires.3) (targeted given) (bare given _ _ blanks.alls) (bare given _ _ blanks.news)))
 
 pub set_masks-requires : goal.set_masks-requires
 set_masks-requires c = (c.requires.4.long, c.requires.4.few, c.requires.4.rows, c.requires.5.few, c.requires.5.words, heads-in c.requires.5 _ c.note_targets.ensures.all_len_unchanged, c.note_targets.ensures.len_unchanged ∙ c.requires.5.alike ∙ sym c.note_targets.ensures.all_len_unchanged, (bounded c.requires.0.1).letters-few, refl, refl)

@@ -31,13 +31,13 @@ pub returns-then-next-counts : goal.returns-then-next-counts
 returns-then-next-counts c = (λ el g m ec es reads linked zeros re. let w = rests-kept c.lines_kept.ensures (c.loop-next.invariant.gone el g m ec es reads linked zeros re) in let t = (rw c.in-Some.is at c.take_round.ensures.by_index) el g w.old (round_table g c.loop-next.i) c.loop-next.i ec es (omega arith) reads linked w.resting in let size = c.loop-next.invariant.sized ∙ room-is m _ zeros in c.settle.ensures.by_index el g (round_table g c.loop-next.i) m (noted-last w c.loop-next.invariant.room size t c.if-next-counts.true) (c.loop-next.invariant.tabled ∙ zeros) ∙ ends-settled w c.loop-next.invariant.room size t c.if-next-counts.true _ _ _ (c.take_round.ensures.log_len_unchanged ∙ c.loop-next.invariant.logs))
 
 pub returns-then-i-ge-MAX_ROUNDS : goal.returns-then-i-ge-MAX_ROUNDS
-returns-then-i-ge-MAX_ROUNDS c = (λ el g m ec es reads linked zeros re. let w = rests-kept c.lines_kept.ensures (c.loop-next.invariant.gone el g m ec es reads linked zeros re) in let t = (rw c.in_default.is at c.take_round.ensures.by_index) el g w.old (round_table g c.loop-next.i) c.loop-next.i ec es (omega arith) reads linked w.resting in let size = c.loop-next.invariant.sized ∙ room-is m _ zeros in c.give_up.ensures.work_after ∙ leaving-at _ (ap length c.loop-next.invariant.tabled) (c.take_round.ensures.log_len_unchanged ∙ c.loop-next.invariant.logs) ∙ sym (ends_last w c.loop-next.invariant.room size t (λ e. omega (arith, e, c.loop-next.invariant.room)) c.if-i-ge-MAX_ROUNDS.true _ _))
+returns-then-i-ge-MAX_ROUNDS c = (λ el g m ec es reads linked zeros re. let w = rests-kept c.lines_kept.ensures (c.loop-next.invariant.gone el g m ec es reads linked zeros re) in let t = (rw c.in_default.is at c.take_round.ensures.by_index) el g w.old (round_table g c.loop-next.i) c.loop-next.i ec es (omega arith) reads linked w.resting in let size = c.loop-next.invariant.sized ∙ room-is m _ zeros in (rw c.at.ensures at c.give_up.ensures.work_after) ∙ leaving-at _ (ap length c.loop-next.invariant.tabled) (c.take_round.ensures.log_len_unchanged ∙ c.loop-next.invariant.logs) ∙ sym (ends_last w c.loop-next.invariant.room size t (λ e. omega (arith, e, c.loop-next.invariant.room)) c.if-i-ge-MAX_ROUNDS.true _ _))
 
 pub returns-in_default : goal.returns-in_default
-returns-in_default c = (λ el g m ec es reads linked zeros re. let w = rests-kept c.lines_kept.ensures (c.loop-next.invariant.gone el g m ec es reads linked zeros re) in let t = (rw c.in_default.is at c.take_round.ensures.by_index) el g w.old (round_table g c.loop-next.i) c.loop-next.i ec es (omega arith) reads linked w.resting in let size = c.loop-next.invariant.sized ∙ room-is m _ zeros in c.give_up-in_default.ensures.work_after ∙ leaving-at _ (ap length c.loop-next.invariant.tabled) (c.take_round.ensures.log_len_unchanged ∙ c.loop-next.invariant.logs) ∙ sym (ends-full w c.loop-next.invariant.room size t (λ e. omega (arith, e, c.loop-next.invariant.room)) (omega (arith, c.if-i-ge-MAX_ROUNDS.false)) (omega arith) _ _))
+returns-in_default c = (λ el g m ec es reads linked zeros re. let w = rests-kept c.lines_kept.ensures (c.loop-next.invariant.gone el g m ec es reads linked zeros re) in let t = (rw c.in_default.is at c.take_round.ensures.by_index) el g w.old (round_table g c.loop-next.i) c.loop-next.i ec es (omega arith) reads linked w.resting in let size = c.loop-next.invariant.sized ∙ room-is m _ zeros in (rw c.at-in_default.ensures at c.give_up-in_default.ensures.work_after) ∙ leaving-at _ (ap length c.loop-next.invariant.tabled) (c.take_round.ensures.log_len_unchanged ∙ c.loop-next.invariant.logs) ∙ sym (ends-full w c.loop-next.invariant.room size t (λ e. omega (arith, e, c.loop-next.invariant.room)) (omega (arith, c.if-i-ge-MAX_ROUNDS.false)) (omega arith) _ _))
 
 pub returns-then-i-ge-MAX_ROUNDS-2 : goal.returns-then-i-ge-MAX_ROUNDS-2
-returns-then-i-ge-MAX_ROUNDS-2 c = (λ el g m ec es reads linked zeros re. let w = rests-kept c.lines_kept.ensures (c.loop-next.invariant.gone el g m ec es reads linked zeros re) in let t = (rw c.in-Some.is at c.take_round.ensures.by_index) el g w.old (round_table g c.loop-next.i) c.loop-next.i ec es (omega arith) reads linked w.resting in let size = c.loop-next.invariant.sized ∙ room-is m _ zeros in c.give_up-then-i-ge-MAX_ROUNDS-2.ensures.work_after ∙ leaving-at _ (ap length c.loop-next.invariant.tabled) (c.take_round.ensures.log_len_unchanged ∙ c.loop-next.invariant.logs) ∙ sym (ends_last w c.loop-next.invariant.room size t c.if-next-counts.false c.if-i-ge-MAX_ROUNDS-2.true _ _))
+returns-then-i-ge-MAX_ROUNDS-2 c = (λ el g m ec es reads linked zeros re. let w = rests-kept c.lines_kept.ensures (c.loop-next.invariant.gone el g m ec es reads linked zeros re) in let t = (rw c.in-Some.is at c.take_round.ensures.by_index) el g w.old (round_table g c.loop-next.i) c.loop-next.i ec es (omega arith) reads linked w.resting in let size = c.loop-next.invariant.sized ∙ room-is m _ zeros in (rw c.at-then-i-ge-MAX_ROUNDS-2.ensures at c.give_up-then-i-ge-MAX_ROUNDS-2.ensures.work_after) ∙ leaving-at _ (ap length c.loop-next.invariant.tabled) (c.take_round.ensures.log_len_unchanged ∙ c.loop-next.invariant.logs) ∙ sym (ends_last w c.loop-next.invariant.room size t c.if-next-counts.false c.if-i-ge-MAX_ROUNDS-2.true _ _))
 
 pub loop-next-smaller : goal.loop-next-smaller
 loop-next-smaller c = omega (arith, c.loop-next.invariant.most, c.if-i-ge-MAX_ROUNDS-2.false)

@@ -10,7 +10,7 @@ shape_of-work c = c.fill-2.ensures.len
 pub returns : goal.returns
 returns c =
     record {
-      work_after = refused-left _ _ _ _ (c.fill.ensures.after (λ y e. e)) (c.fill-2.ensures.after (λ y e. e));
+      work_after = refused-left _ _ _ (c.fill.ensures.after (λ y e. e)) (c.fill-2.ensures.after (λ y e. e));
       begun_len_unchanged = c.fill.ensures.len;
       work_len_unchanged = c.fill-2.ensures.len;
     }

@@ -7,10 +7,10 @@ use lib.ListN.{length}
 use Rattle.rounds.specs.RoundLaws.{round_table}
 use Rattle.rounds.proofs.RoundLaws.{round-ranged}
 use Rattle.rounds.specs.Filled.{Stored, number_of}
-use Rattle.solver.specs.declared.solving.Solution.TheVariants.{Solved as SolvedWith}
 use Rattle.rounds.proofs.StoredRows.{long}
 use Rattle.walk.specs.RoundPast.{round-past}
 use Rattle.solver.proofs.RoundsTaken.{taken-zero, leaving-at, cleared_at, same-number, other-number, turn-settled, turn_last, turn-full, turn-next}
+use Rattle.solver.specs.Leaving.{solved_with}
 use Rattle.solver.proofs.solving.rounds_from.Goals as goal
 
 pub loop-sizes-init : goal.loop-sizes-init
@@ -26,7 +26,7 @@ pub take_wide-next-requires : goal.take_wide-next-requires
 take_wide-next-requires c = (c.requires.0, c.requires.1, omega (arith, c.loop-sizes.invariant.3, ap length c.copy_from_slice.ensures.after), omega (arith, c.loop-sizes.invariant.0))
 
 pub returns-then-eq : goal.returns-then-eq
-returns-then-eq c = λ g n h good st. let t = c.loop-sizes.invariant.4 g n h good st in cleared_at (SolvedWith c.loop-sizes.count c.loop-sizes.i) _ (c.fill.ensures.after (λ y e. e)) (c.copy_from_slice.ensures.len ∙ c.loop-sizes.invariant.2) ∙ turn-settled g n _ _ _ t good _ _ (c.take_wide-next.ensures.filled g (round_table g c.loop-sizes.i) n h good (round-ranged g good c.loop-sizes.i).1 (subst (λ (w : List ℕ). Stored n w c.loop-sizes.count (round_table g c.loop-sizes.i)) (sym c.copy_from_slice.ensures.after) t.stored) t.stored (round-past g good n c.loop-sizes.i)) (same-number n _ c.take_wide-next.result (sym c.eq.ensures ∙ c.if-eq.true)) _ _
+returns-then-eq c = λ g n h good st. let t = c.loop-sizes.invariant.4 g n h good st in cleared_at (solved_with c.loop-sizes.count c.loop-sizes.i) _ (c.fill.ensures.after (λ y e. e)) (c.copy_from_slice.ensures.len ∙ c.loop-sizes.invariant.2) ∙ turn-settled g n _ _ _ t good _ _ (c.take_wide-next.ensures.filled g (round_table g c.loop-sizes.i) n h good (round-ranged g good c.loop-sizes.i).1 (subst (λ (w : List ℕ). Stored n w c.loop-sizes.count (round_table g c.loop-sizes.i)) (sym c.copy_from_slice.ensures.after) t.stored) t.stored (round-past g good n c.loop-sizes.i)) (same-number n _ c.take_wide-next.result (sym c.eq.ensures ∙ c.if-eq.true)) _ _
 
 pub overflow_cast-i : goal.overflow_cast-i
 overflow_cast-i c = omega arith
@@ -41,7 +41,7 @@ pub shape_of-work-then-i-ge-MAX_ROUNDS : goal.shape_of-work-then-i-ge-MAX_ROUNDS
 shape_of-work-then-i-ge-MAX_ROUNDS c = c.give_up.ensures.work_len_unchanged ∙ (c.copy_from_slice.ensures.len ∙ c.loop-sizes.invariant.2)
 
 pub returns-then-i-ge-MAX_ROUNDS : goal.returns-then-i-ge-MAX_ROUNDS
-returns-then-i-ge-MAX_ROUNDS c = λ g n h good st. let t = c.loop-sizes.invariant.4 g n h good st in c.give_up.ensures.work_after ∙ leaving-at _ (c.take_wide-next.ensures.table_len_unchanged ∙ c.loop-sizes.invariant.1) (c.copy_from_slice.ensures.len ∙ c.loop-sizes.invariant.2) ∙ sym (turn_last g n _ _ _ t good _ _ (c.take_wide-next.ensures.filled g (round_table g c.loop-sizes.i) n h good (round-ranged g good c.loop-sizes.i).1 (subst (λ (w : List ℕ). Stored n w c.loop-sizes.count (round_table g c.loop-sizes.i)) (sym c.copy_from_slice.ensures.after) t.stored) t.stored (round-past g good n c.loop-sizes.i)) (other-number n _ c.take_wide-next.result (omega (arith, t.stored.counted, t.stored.fits)) (sym c.eq.ensures ∙ c.if-eq.false)) c.if-i-ge-MAX_ROUNDS.true _ _)
+returns-then-i-ge-MAX_ROUNDS c = λ g n h good st. let t = c.loop-sizes.invariant.4 g n h good st in (rw c.at.ensures at c.give_up.ensures.work_after) ∙ leaving-at _ (c.take_wide-next.ensures.table_len_unchanged ∙ c.loop-sizes.invariant.1) (c.copy_from_slice.ensures.len ∙ c.loop-sizes.invariant.2) ∙ sym (turn_last g n _ _ _ t good _ _ (c.take_wide-next.ensures.filled g (round_table g c.loop-sizes.i) n h good (round-ranged g good c.loop-sizes.i).1 (subst (λ (w : List ℕ). Stored n w c.loop-sizes.count (round_table g c.loop-sizes.i)) (sym c.copy_from_slice.ensures.after) t.stored) t.stored (round-past g good n c.loop-sizes.i)) (other-number n _ c.take_wide-next.result (omega (arith, t.stored.counted, t.stored.fits)) (sym c.eq.ensures ∙ c.if-eq.false)) c.if-i-ge-MAX_ROUNDS.true _ _)
 
 pub overflow_cast-i-in_default : goal.overflow_cast-i-in_default
 overflow_cast-i-in_default c = omega arith
@@ -50,7 +50,7 @@ pub overflow_add-i-in_default : goal.overflow_add-i-in_default
 overflow_add-i-in_default c = omega (arith, c.loop-sizes.invariant.0)
 
 pub returns-in_default : goal.returns-in_default
-returns-in_default c = λ g n h good st. let t = c.loop-sizes.invariant.4 g n h good st in c.give_up-in_default.ensures.work_after ∙ leaving-at _ (c.take_wide-next.ensures.table_len_unchanged ∙ c.loop-sizes.invariant.1) (c.copy_from_slice.ensures.len ∙ c.loop-sizes.invariant.2) ∙ sym (turn-full g n _ _ _ t good _ _ (c.take_wide-next.ensures.filled g (round_table g c.loop-sizes.i) n h good (round-ranged g good c.loop-sizes.i).1 (subst (λ (w : List ℕ). Stored n w c.loop-sizes.count (round_table g c.loop-sizes.i)) (sym c.copy_from_slice.ensures.after) t.stored) t.stored (round-past g good n c.loop-sizes.i)) (other-number n _ c.take_wide-next.result (omega (arith, t.stored.counted, t.stored.fits)) (sym c.eq.ensures ∙ c.if-eq.false)) c.if-i-ge-MAX_ROUNDS.false (subst (λ (r : Option ℕ). n < number_of n r) (sym c.in_default.is) (omega arith)) _ _)
+returns-in_default c = λ g n h good st. let t = c.loop-sizes.invariant.4 g n h good st in (rw c.at-in_default.ensures at c.give_up-in_default.ensures.work_after) ∙ leaving-at _ (c.take_wide-next.ensures.table_len_unchanged ∙ c.loop-sizes.invariant.1) (c.copy_from_slice.ensures.len ∙ c.loop-sizes.invariant.2) ∙ sym (turn-full g n _ _ _ t good _ _ (c.take_wide-next.ensures.filled g (round_table g c.loop-sizes.i) n h good (round-ranged g good c.loop-sizes.i).1 (subst (λ (w : List ℕ). Stored n w c.loop-sizes.count (round_table g c.loop-sizes.i)) (sym c.copy_from_slice.ensures.after) t.stored) t.stored (round-past g good n c.loop-sizes.i)) (other-number n _ c.take_wide-next.result (omega (arith, t.stored.counted, t.stored.fits)) (sym c.eq.ensures ∙ c.if-eq.false)) c.if-i-ge-MAX_ROUNDS.false (subst (λ (r : Option ℕ). n < number_of n r) (sym c.in_default.is) (omega arith)) _ _)
 
 pub overflow_add-i-in-loop-sizes : goal.overflow_add-i-in-loop-sizes
 overflow_add-i-in-loop-sizes c = omega (arith, c.loop-sizes.invariant.0)
