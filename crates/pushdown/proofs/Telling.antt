@@ -1,26 +1,26 @@
 -- What the interface returns and writes, from what the entry points promise.
-use Prim.Native.Nat.{ℕ, ◌+◌, ◌*◌, ◌/◌, ◌%◌}
+use Prim.Native.Nat.{ℕ}
 use native.Mathlib.Omega.{arith}
 use mathlib.Core.Path.{◌≡◌, refl, sym, ap, ◌∙◌}
 use mathlib.Core.Bool.{Bool, true, false, ◌&&◌}
 use mathlib.Core.List.{List, [], ◌∷◌}
-use lib.ListN.{length, get_or, drop}
+use lib.ListN.{length, set, replicate}
 use lib.Dec.{eqb}
 use borrow.Author.Tests.{eq-eqb, ne_eqb}
 use Rattle.game.specs.Game.{PushdownGame}
 use Rattle.game.specs.Held.{was_read}
-use Rattle.game.specs.Outcome.{Outcome, done, refused, answer, said}
+use Rattle.game.specs.Outcome.{Outcome, done, refused, number, said}
 use Rattle.game.specs.Questions.{reading}
-use Rattle.game.specs.Stored.{held_sizes, sizes_of, Reports}
+use Rattle.game.specs.Stored.{held_sizes, sizes_of, as_stored, Reports}
 use Rattle.game.specs.declared.game.Sizes.{Sizes}
-use Rattle.game.specs.declared.game.Reading.{Reading}
-use Rattle.game.specs.declared.game.Answer.{Answer}
-use Rattle.game.specs.declared.game.Answer.TheVariants.{Done, Refused}
+use Rattle.std.specs.Prelude.{Result, Ok, Err}
+use Rattle.game.specs.declared.game.Game.{Game}
+use Rattle.game.specs.declared.refusal.Refusal.{Refusal}
 use Rattle.judge.specs.Verdict.{judging}
 use Rattle.judge.specs.Judged.{judged}
-use Rattle.judge.specs.declared.verdict.Verdict.{Verdict as Answered}
-use Rattle.session.specs.Session.{session, Moved, move, handed}
-use Rattle.session.specs.declared.moving.Played.{Played}
+use Rattle.judge.specs.declared.verdict.Verdict.{Verdict}
+use Rattle.session.specs.Session.{Moved, move, left as left-by}
+use Rattle.session.specs.declared.playing.Session.{Session}
 use Rattle.solver.specs.Leaving.{solve_call}
 use Rattle.pushdown.specs.Interface.{
   Told,
@@ -63,12 +63,11 @@ module _ (file out : List ℕ) where
   unfolding read_call
   read-told e = rw (eq-eqb (length out) read_words e)
 
-refused-is : (o : Outcome PushdownGame) (q p : ℕ) → refused q p ≡ answer o → o ≡ refused q p
-refused-is (done g) q p e = absurd (let z : ◌≡◌ {A = ℕ} 0 1 = cc in omega arith)
-refused-is (refused n k) q p e = cc
-
-pub read-refused : (file : List ℕ) (r : Reading) → Reports (reading file) r → (q p : ℕ) → r.answer ≡ Refused q p → reading file ≡ refused q p
-read-refused file r h q p e = refused-is (reading file) q p (sym (ap said e) ∙ h.answers)
+pub read-refused : (o : Outcome PushdownGame) (refusal : Refusal) → said {A = Game} (Err refusal) ≡ as_stored o
+    → told (number refusal.question) (refusal.place ∷ replicate 7 0) ≡ read_told o
+unfolding read_told
+read-refused (done g) refusal e = absurd (let z : ◌≡◌ {A = ℕ} 0 1 = cc in omega arith)
+read-refused (refused n k) refusal e = let p : number refusal.question ≡ n = cc in let q : refusal.place ≡ k = cc in rw (p, q)
 
 -- the sizes that are told
 abbrev pub sizes_told : Sizes → Told
@@ -80,10 +79,10 @@ sizes-told : (o : Outcome PushdownGame) (g : PushdownGame) → o ≡ done g → 
 unfolding read_told
 sizes-told o g e sizes s = rw (e, s)
 
-pub read-sizes : (file : List ℕ) (r : Reading) → Reports (reading file) r → r.answer ≡ Done → (sizes : Sizes) → sizes ≡ held_sizes r.game
-    → sizes_told sizes ≡ read_told (reading file)
-read-sizes file r h d sizes e =
-    let x = was_read file r h d in
+pub read-sizes : (file : List ℕ) (r : Result Game Refusal) → Reports (reading file) r → (game : Game) → r ≡ Ok game → (sizes : Sizes)
+    → sizes ≡ held_sizes game → sizes_told sizes ≡ read_told (reading file)
+read-sizes file r h game d sizes e =
+    let x = was_read file r h game d in
     sizes-told (reading file) x.game x.reads sizes (e ∙ ap held_sizes x.stores)
 
 -- solving
@@ -102,9 +101,15 @@ module _ (file table position out : List ℕ) where
   unfolding judge_call
   judge-wrong ne = rw (ne_eqb (length out) judge_words ne)
 
-  pub judge-told : length out ≡ judge_words → (v : Answered) → judged v ≡ judging file table position → judge_told (judged v) ≡ judge_call file table position out
+  pub judge-told : length out ≡ judge_words → (v : Result Verdict Refusal) → judged v ≡ judging file table position → judge_told (judged v) ≡ judge_call file table position out
   unfolding judge_call
   judge-told e v h = rw (eq-eqb (length out) judge_words e, h)
+
+-- an area of one word, written
+pub one-word : (out : List ℕ) (x : ℕ) → length out ≡ 1 → set out 0 x ≡ x ∷ []
+one-word [] x e = absurd (omega arith)
+one-word (a ∷ []) x e = refl
+one-word (a ∷ b ∷ out) x e = absurd (omega arith)
 
 -- playing a move
 no-right : (b : Bool) {c : Bool} → c ≡ false → (b && c) ≡ false
@@ -120,21 +125,18 @@ module _ (file bytes : List ℕ) (rule : ℕ) (out : List ℕ) where
   unfolding play_call
   play-wrong ne = rw (no-right (eqb (length bytes) session_bytes) (ne_eqb (length out) play_words ne))
 
-  module _ (e : length bytes ≡ session_bytes) (f : length out ≡ play_words) (r : Played) (cells : List ℕ) (height : ℕ) (c : cells ≡ drop 3 bytes) (k : height ≡ get_or bytes 1 0 + 256 * get_or bytes 2 0) (h : handed r ≡ move file (session (get_or bytes 0 0) cells height) rule) where
-    play-told : play_told bytes (handed r).session (handed r).answer ≡ play_call file bytes rule out
-    unfolding play_call session_at
+  module _ (e : length bytes ≡ session_bytes) (f : length out ≡ play_words) (a : Result (Unit {0}) Refusal) (s : Session) (h : left-by a s ≡ move file (session_at bytes) rule) where
+    play-told : play_told bytes s (said a) ≡ play_call file bytes rule out
+    unfolding play_call
     play-told =
         rw (eq-eqb (length bytes) session_bytes e, eq-eqb (length out) play_words f)
-        (ap (λ (m : Moved). play_told bytes m.session m.answer)
-        (h
-        ∙ ap (λ (l : List ℕ). move file (session (get_or bytes 0 0) l height) rule) c
-        ∙ ap (λ (x : ℕ). move file (session (get_or bytes 0 0) (drop 3 bytes) x) rule) k))
+        (ap (λ (m : Moved). play_told bytes m.session m.answer) h)
 
-    pub play-done : r.answer ≡ Done → {now out' : List ℕ} → now ≡ r.state ∷ r.height % 256 ∷ r.height / 256 % 256 ∷ r.stack → out' ≡ 0 ∷ []
-        → played 0 now out' ≡ play_call file bytes rule out
-    unfolding play_told bytes_of
-    play-done d w o = rw (w, o) (sym (ap (λ (a : Answer). play_told bytes (handed r).session (said a)) d) ∙ play-told)
-
-    pub play-refused : (q p : ℕ) → r.answer ≡ Refused q p → {out' : List ℕ} → out' ≡ p ∷ [] → played q bytes out' ≡ play_call file bytes rule out
+    pub play-done : (u : Unit {0}) → a ≡ Ok u → {now out' : List ℕ} → now ≡ bytes_of s → out' ≡ 0 ∷ [] → played 0 now out' ≡ play_call file bytes rule out
     unfolding play_told
-    play-refused q p d o = rw o (sym (ap (λ (a : Answer). play_told bytes (handed r).session (said a)) d) ∙ play-told)
+    play-done u d w o = rw (w, o) (sym (ap (λ (x : Result (Unit {0}) Refusal). play_told bytes s (said x)) d) ∙ play-told)
+
+    pub play-refused : (refusal : Refusal) → a ≡ Err refusal → {out' : List ℕ} → out' ≡ refusal.place ∷ []
+        → played (number refusal.question) bytes out' ≡ play_call file bytes rule out
+    unfolding play_told
+    play-refused refusal d o = rw o (sym (ap (λ (x : Result (Unit {0}) Refusal). play_told bytes s (said x)) d) ∙ play-told)

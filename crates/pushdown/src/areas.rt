@@ -1,52 +1,31 @@
-// The lent areas: words for results, and the bytes of a session.
-ghost use Rattle.std.specs.Prelude.{◌≡◌, ◌+◌, ◌*◌, ◌/◌, ◌%◌, ◌∷◌, length, drop};
+// The bytes of a session.
+ghost use Rattle.std.specs.Prelude.{◌≡◌, length};
+ghost use Rattle.pushdown.specs.Interface.{session_at, bytes_of};
 
 use game::Game;
+use session::Session;
 
-// Writes an area whole.
-pub fn tell(words: &[u64], out: &mut [u64])
-    requires { length words.now ≡ length out.old }
-    ensures { out.new ≡ words.now }
+// The session that 259 bytes are.
+pub fn session_of(bytes: &[u8]) -> Session
+    requires { length bytes.now ≡ 259 }
+    ensures { result ≡ session_at bytes.now }
 {
-    let mut i = 0;
-    while i < words.len() {
-        out[i] = words[i];
-        i += 1;
+    let mut stack = [0; Game::MAX_STACK];
+    stack.copy_from_slice(&bytes[3..]);
+    Session {
+        state: bytes[0],
+        stack,
+        height: (bytes[1] as usize) + 256 * (bytes[2] as usize),
     }
-}
-
-// The cells of a session's bytes.
-pub fn cells_of(session: &[u8]) -> [u8; Game::MAX_STACK]
-    requires { length session.now ≡ 259 }
-    ensures { result ≡ drop 3 session.now }
-{
-    let mut cells = [0u8; Game::MAX_STACK];
-    let mut i = 0;
-    while i < Game::MAX_STACK {
-        cells[i] = session[i + 3];
-        i += 1;
-    }
-    cells
-}
-
-// The height of a session's two bytes.
-pub fn height_of(low: u8, high: u8) -> usize
-    ensures { result ≡ low + 256 * high }
-{
-    (low as usize) + 256 * (high as usize)
 }
 
 // Writes a session's bytes.
-pub fn store(session: &mut [u8], state: u8, cells: [u8; Game::MAX_STACK], height: usize)
-    requires { length session.old ≡ 259 }
-    ensures { session.new ≡ state ∷ height % 256 ∷ height / 256 % 256 ∷ cells }
+pub fn store(bytes: &mut [u8], session: Session)
+    requires { length bytes.old ≡ 259 }
+    ensures { bytes.new ≡ bytes_of session }
 {
-    session[0] = state;
-    session[1] = (height % 256) as u8;
-    session[2] = (height / 256 % 256) as u8;
-    let mut i = 0;
-    while i < Game::MAX_STACK {
-        session[i + 3] = cells[i];
-        i += 1;
-    }
+    bytes[0] = session.state;
+    bytes[1] = (session.height % 256) as u8;
+    bytes[2] = (session.height / 256 % 256) as u8;
+    bytes[3..].copy_from_slice(&session.stack);
 }

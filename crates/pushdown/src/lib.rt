@@ -7,14 +7,16 @@
 
 mod areas;
 
-ghost use Rattle.std.specs.Prelude.{◌≡◌};
-ghost use Rattle.pushdown.specs.Interface.{version, read_call, solve_with, judge_call, play_call};
+ghost use Rattle.std.specs.Prelude.{◌≡◌, ◌<◌, ◌-◌, ◌∷◌, length, replicate};
+ghost use Rattle.game.specs.Outcome.{done, number};
+ghost use Rattle.judge.specs.Judged.{field_of, verdict_as};
+ghost use Rattle.pushdown.specs.Interface.{version, read_call, solve_with, judge_told, judge_call, play_call};
 
-use crate::areas::{cells_of, height_of, store, tell};
-use game::{Answer, Game};
+use crate::areas::{session_of, store};
+use game::{Game, Refusal};
 use judge::{Verdict, judge};
-use session::play_move;
-use solver::{Solution, solve};
+use session::play;
+use solver::solve;
 
 pub const VERSION_MAJOR: u32 = 4;
 
@@ -49,30 +51,22 @@ pub extern "C" fn pushdown_read(file: &[u8], out: &mut [u64]) -> u32
     if out.len() != READ_WORDS {
         return WRONG_LENGTH;
     }
-    let reading = Game::read(file);
-    let sizes = reading.game.sizes();
-    let answer = reading.answer;
-    match answer {
-        Answer::Done => {
-            tell(
-                &[
-                    0,
-                    sizes.control as u64,
-                    sizes.states as u64,
-                    sizes.letters as u64,
-                    sizes.abelard as u64,
-                    sizes.finals as u64,
-                    sizes.rulecount as u64,
-                    sizes.targetcount as u64,
-                ],
-                out,
-            );
+    match Game::read(file) {
+        Ok(game) => {
+            let sizes = game.sizes();
+            out.copy_from_slice(&[
+                0,
+                sizes.control as u64,
+                sizes.states as u64,
+                sizes.letters as u64,
+                sizes.abelard as u64,
+                sizes.finals as u64,
+                sizes.rulecount as u64,
+                sizes.targetcount as u64,
+            ]);
             0
         }
-        Answer::Refused { question, place } => {
-            tell(&[place as u64, 0, 0, 0, 0, 0, 0, 0], out);
-            question as u32
-        }
+        Err(refusal) => refuse(refusal, out),
     }
 }
 
@@ -90,16 +84,12 @@ pub extern "C" fn pushdown_solve(
     if out.len() != SOLVE_WORDS {
         return WRONG_LENGTH;
     }
-    let solution = solve(file, table, work);
-    match solution {
-        Solution::Solved { entries, rounds } => {
-            tell(&[0, entries as u64, rounds as u64], out);
+    match solve(file, table, work) {
+        Ok(solved) => {
+            out.copy_from_slice(&[0, solved.entries as u64, solved.rounds as u64]);
             0
         }
-        Solution::Refused { question, place } => {
-            tell(&[place as u64, 0, 0], out);
-            question as u32
-        }
+        Err(refusal) => refuse(refusal, out),
     }
 }
 
@@ -117,28 +107,12 @@ pub extern "C" fn pushdown_judge(
     if out.len() != JUDGE_WORDS {
         return WRONG_LENGTH;
     }
-    let verdict = judge(file, table, position);
-    match verdict {
-        Verdict::Lost { rule } => {
-            tell(&[0, 1, rule as u64, 0], out);
+    match judge(file, table, position) {
+        Ok(verdict) => {
+            out.copy_from_slice(&words_of(verdict));
             0
         }
-        Verdict::Target => {
-            tell(&[0, 2, 0, 0], out);
-            0
-        }
-        Verdict::Eloise { rule, bound } => {
-            tell(&[0, 3, rule as u64, bound], out);
-            0
-        }
-        Verdict::Abelard { bound } => {
-            tell(&[0, 4, 0, bound], out);
-            0
-        }
-        Verdict::Refused { question, place } => {
-            tell(&[place as u64, 0, 0, 0], out);
-            question as u32
-        }
+        Err(refusal) => refuse(refusal, out),
     }
 }
 
@@ -155,19 +129,45 @@ pub extern "C" fn pushdown_play(file: &[u8], session: &mut [u8], rule: u32, out:
     if out.len() != PLAY_WORDS {
         return WRONG_LENGTH;
     }
-    let height = height_of(session[1], session[2]);
-    let played = play_move(file, session[0], cells_of(session), height, rule);
-    let answer = played.answer;
-    match answer {
-        Answer::Done => {
-            let cells = played.stack;
-            store(session, played.state, cells, played.height);
-            tell(&[0], out);
+    let mut played = session_of(session);
+    match play(file, &mut played, rule) {
+        Ok(()) => {
+            store(session, played);
+            out[0] = 0;
             0
         }
-        Answer::Refused { question, place } => {
-            tell(&[place as u64], out);
-            question as u32
-        }
+        Err(refusal) => refuse(refusal, out),
     }
+}
+
+// A verdict's words: place 0, kind, rule, bound. The rule of a lost position is told as its number plus 1, or 0.
+fn words_of(verdict: Verdict) -> [u64; JUDGE_WORDS]
+    ensures { record { number = 0; out = result } ≡ judge_told (done (verdict_as verdict)) }
+{
+    match verdict {
+        Verdict::Lost { rule } => [0, 1, field_of(rule), 0],
+        Verdict::Target => [0, 2, 0, 0],
+        Verdict::Eloise { rule, bound } => [0, 3, rule as u64, bound],
+        Verdict::Abelard { bound } => [0, 4, 0, bound],
+    }
+}
+
+fn field_of(rule: Option<u32>) -> u64
+    ensures { result ≡ field_of rule }
+{
+    match rule {
+        Some(number) => number as u64 + 1,
+        None => 0,
+    }
+}
+
+// A refusal's words, the place and zeros, and its number.
+fn refuse(refusal: Refusal, out: &mut [u64]) -> u32
+    requires { 0 < length out.old }
+    ensures told { result ≡ number refusal.question }
+    ensures written { out.new ≡ refusal.place ∷ replicate (length out.old - 1) 0 }
+{
+    out.fill(0);
+    out[0] = refusal.place as u64;
+    refusal.question.number() as u32
 }

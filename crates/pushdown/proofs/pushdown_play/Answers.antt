@@ -1,4 +1,7 @@
-use Rattle.pushdown.proofs.Telling.{play-wrong-session, play-wrong, play-done, play-refused}
+use mathlib.Core.Path.{refl, ap, ◌∙◌}
+use Rattle.session.specs.declared.playing.Session.{Session}
+use Rattle.session.specs.Session.{move}
+use Rattle.pushdown.proofs.Telling.{play-wrong-session, play-wrong, play-done, play-refused, one-word}
 use Rattle.pushdown.proofs.pushdown_play.Goals as goal
 
 pub returns-then-session-ne-SESSION_BYTES : goal.returns-then-session-ne-SESSION_BYTES
@@ -7,8 +10,15 @@ returns-then-session-ne-SESSION_BYTES c = play-wrong-session _ _ _ _ c.if-sessio
 pub returns-then-out-ne-PLAY_WORDS : goal.returns-then-out-ne-PLAY_WORDS
 returns-then-out-ne-PLAY_WORDS c = play-wrong _ _ _ _ c.if-out-ne-PLAY_WORDS.true
 
-pub returns-in-Done : goal.returns-in-Done
-returns-in-Done c = play-done _ _ _ _ c.if-session-ne-SESSION_BYTES.false c.if-out-ne-PLAY_WORDS.false _ _ _ c.cells_of.ensures c.height_of-height.ensures c.play_move-played.ensures c.in-Done.is c.store.ensures c.tell.ensures
+pub returns-in-Ok : goal.returns-in-Ok
+returns-in-Ok c =
+    play-done _ _ _ _ c.if-session-ne-SESSION_BYTES.false c.if-out-ne-PLAY_WORDS.false _ _
+    (c.play.ensures ∙ ap (λ (s : Session). move c.args.file.now s c.args.rule) c.session_of-played.ensures)
+    _ c.in-Ok.is c.store.ensures (one-word _ _ c.if-out-ne-PLAY_WORDS.false)
 
-pub returns-in-Refused : goal.returns-in-Refused
-returns-in-Refused c = play-refused _ _ _ _ c.if-session-ne-SESSION_BYTES.false c.if-out-ne-PLAY_WORDS.false _ _ _ c.cells_of.ensures c.height_of-height.ensures c.play_move-played.ensures _ _ c.in-Refused.is c.tell-in-Refused.ensures
+pub returns-in-Err : goal.returns-in-Err
+returns-in-Err c =
+    rw (c.refuse.ensures.told, c.refuse.ensures.written, c.if-out-ne-PLAY_WORDS.false)
+    (play-refused _ _ _ _ c.if-session-ne-SESSION_BYTES.false c.if-out-ne-PLAY_WORDS.false _ _
+    (c.play.ensures ∙ ap (λ (s : Session). move c.args.file.now s c.args.rule) c.session_of-played.ensures)
+    _ c.in-Err.is refl)
