@@ -1,14 +1,17 @@
-// What test programs share: the words, numbers and bytes of the scripts that they read, files built in a buffer, and areas of
-// words.
+// What test programs share: the words and values of the scripts that they read, the tally of a script's cases, files built in a buffer,
+// the samples of document 01, and parts and numbers made to fit.
 #![tactic(auto)]
 
 mod areas;
-mod build;
-mod text;
+mod cases;
+mod file;
+mod numbers;
+mod samples;
+mod words;
 
-pub use areas::{copy, fill, front_words, is_same, is_zero, lent};
-pub use build::{front, put, put_bytes, put_d, put_long, put_times};
-pub use text::{
-    Numbers, Value, after_word, beyond, byte_at, byte_of, line_of, numbers_at, up, value_at, wide,
-    word, word_at, word_of,
-};
+pub use areas::{front, lent};
+pub use cases::Cases;
+pub use file::File;
+pub use numbers::{byte_of, word_of};
+pub use samples::{SAMPLE_A, SAMPLE_B, SAMPLE_C};
+pub use words::Script;

@@ -1,5 +1,5 @@
 use Rattle.std.proofs.Common.{length, ◌-◌, ◌≤◌, ◌≡◌}
-use Rattle.output.proofs.read_full.Given as goal
+use Rattle.output.proofs.input.read_full.Given as goal
 
 -- `read_full` ends and is safe. The loop keeps its count within the buffer, and the buffer's length. The measure is what
 -- is left of the buffer.

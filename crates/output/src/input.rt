@@ -1,0 +1,16 @@
+// Input, read into a buffer.
+use std::io;
+use std::io::Read;
+
+// Reads until the buffer is full or the input ends, and returns the part of the buffer that was read.
+pub fn read_full<'a>(input: &mut impl Read, buffer: &'a mut [u8]) -> io::Result<&'a [u8]> {
+    let mut done = 0;
+    while done < buffer.len() {
+        let n = input.read(&mut buffer[done..])?;
+        if n == 0 {
+            break;
+        }
+        done += n;
+    }
+    Ok(&buffer[..done])
+}
