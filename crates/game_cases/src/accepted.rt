@@ -1,145 +1,59 @@
-// Cases of accepted files: every field of the game handed out.
-use crate::tally::Tally;
+// Cases of accepted files: every field of the game. Where the file is refused the game is taken to be all zero.
+use crate::told::Told;
 use game::Game;
-use script::{Numbers, beyond, byte_at, up, wide, word};
+use script::Cases;
 
 // The bytes of a command 04 or 05.
 const LONG: usize = 7;
 
+pub fn game_of(file: &[u8]) -> Game {
+    Game::read(file).unwrap_or(Game::empty())
+}
+
 // Eight cases: the file is accepted, and the game's numbers are these.
-pub fn accepted(t: Tally, file: &[u8], n: Numbers) -> Tally {
-    let reading = Game::read(file);
-    let answer = reading.answer;
-    let game = reading.game;
-    let t = t.answered(answer, 0, 0);
-    let t = t.same(n.a, wide(game.control));
-    let t = t.same(n.b, wide(game.states));
-    let t = t.same(n.c, wide(game.letters));
-    let t = t.same(n.d, word(game.abelard));
-    let t = t.same(n.e, word(game.finals));
-    let t = t.same(n.f, game.rulecount);
-    t.same(n.g, game.targetcount)
-}
-
-fn game_of(file: &[u8]) -> Game {
-    let reading = Game::read(file);
-    reading.game
-}
-
-// Byte i of the stored rules for base 16, word i of the stored target transitions for any other.
-pub fn stored_at(file: &[u8], base: usize, i: usize) -> usize {
-    let game = game_of(file);
-    if base == 16 {
-        let rules = game.rules;
-        return if i < Game::MAX_RULES * Game::RULE_STRIDE {
-            wide(rules[i])
-        } else {
-            0
-        };
-    }
-    let targets = game.targets;
-    if i < Game::MAX_TARGETS * Game::TARGET_STRIDE {
-        word(targets[i])
-    } else {
-        0
+pub fn accepted(t: &mut Cases, file: &[u8], numbers: [usize; 7]) {
+    t.same(Told::Done, Told::from(Game::read(file)));
+    let sizes = game_of(file).sizes();
+    let got = [
+        usize::from(sizes.control),
+        usize::from(sizes.states),
+        usize::from(sizes.letters),
+        sizes.abelard as usize,
+        sizes.finals as usize,
+        sizes.rulecount,
+        sizes.targetcount,
+    ];
+    for (expected, got) in numbers.iter().zip(got.iter()) {
+        t.same(*expected, *got);
     }
 }
 
-// The game has no field that is not 0.
-pub fn is_nothing(game: Game) -> bool {
-    let sizes = wide(game.control) | wide(game.states) | wide(game.letters);
-    let sets = word(game.abelard) | word(game.finals);
-    if sizes | sets | game.rulecount | game.targetcount != 0 {
-        return false;
-    }
+// The rules have the operands of as many commands 04, one after the other in the file from `start` on, and zeros after them.
+pub fn has_rules(game: Game, file: &[u8], start: usize) -> bool {
     let rules = game.rules;
-    if !are_rules(&rules, b"", 0, 0) {
-        return false;
-    }
+    rules.chunks_exact(Game::RULE_STRIDE).enumerate().all(|(i, rule)| rule
+        == operands(i, game.sizes.rulecount, file, start).as_slice())
+}
+
+// The target transitions have state, letter and set of as many commands 05, and zeros after them.
+pub fn has_targets(game: Game, file: &[u8], start: usize) -> bool {
     let targets = game.targets;
-    are_targets(&targets, b"", 0, 0)
+    targets.chunks_exact(Game::TARGET_STRIDE).enumerate().all(|(i, target)| {
+        let [state, letter, a, b, c, d] = operands(i, game.sizes.targetcount, file, start);
+        let set = u32::from_le_bytes([a, b, c, d]);
+        target == [u32::from(state), u32::from(letter), set].as_slice()
+    })
 }
 
-// The rules are those from `start` on.
-pub fn rules_from(file: &[u8], start: usize) -> bool {
-    let game = game_of(file);
-    let rules = game.rules;
-    are_rules(&rules, file, start, game.rulecount)
-}
-
-// The target transitions are those from `start` on.
-pub fn targets_from(file: &[u8], start: usize) -> bool {
-    let game = game_of(file);
-    let targets = game.targets;
-    are_targets(&targets, file, start, game.targetcount)
-}
-
-// The array has the operands of `count` commands 04, one after the other in the file from `start` on, and zeros after them.
-fn are_rules(
-    stored: &[u8; Game::MAX_RULES * Game::RULE_STRIDE],
-    file: &[u8],
-    start: usize,
-    count: usize,
-) -> bool {
-    let mut i = 0;
-    let mut at = start;
-    while i < Game::MAX_RULES * Game::RULE_STRIDE {
-        let field = i % Game::RULE_STRIDE;
-        let there = i / Game::RULE_STRIDE < count;
-        if wide(stored[i]) != rule_field(there, file, at, field) {
-            return false;
-        }
-        if field + 1 == Game::RULE_STRIDE {
-            at = beyond(at, LONG);
-        }
-        i += 1;
+// The operands of command i of those that stand from `start` on; 0 where there are not so many, and past the file's end.
+fn operands(i: usize, count: usize, file: &[u8], start: usize) -> [u8; 6] {
+    if count <= i {
+        return [0; 6];
     }
-    true
-}
-
-// An operand of the command 04 at an offset; 0 where none is to be there.
-fn rule_field(there: bool, file: &[u8], at: usize, field: usize) -> usize {
-    if !there {
-        return 0;
+    let at = start.saturating_add(i.saturating_mul(LONG));
+    let mut operands = [0; 6];
+    for (operand, byte) in operands.iter_mut().zip(file.iter().skip(at).skip(1)) {
+        *operand = *byte;
     }
-    wide(byte_at(file, beyond(up(at), field)))
-}
-
-// The array has state, letter and set of `count` commands 05, one after the other in the file from `start` on, and zeros
-// after them.
-fn are_targets(
-    stored: &[u32; Game::MAX_TARGETS * Game::TARGET_STRIDE],
-    file: &[u8],
-    start: usize,
-    count: usize,
-) -> bool {
-    let mut i = 0;
-    let mut at = start;
-    while i < Game::MAX_TARGETS * Game::TARGET_STRIDE {
-        let field = i % Game::TARGET_STRIDE;
-        let there = i / Game::TARGET_STRIDE < count;
-        if word(stored[i]) != target_field(there, file, at, field) {
-            return false;
-        }
-        if field + 1 == Game::TARGET_STRIDE {
-            at = beyond(at, LONG);
-        }
-        i += 1;
-    }
-    true
-}
-
-// State, letter or set of the command 05 at an offset; 0 where none is to be there.
-fn target_field(there: bool, file: &[u8], at: usize, field: usize) -> usize {
-    if !there {
-        return 0;
-    }
-    if field < 2 {
-        return wide(byte_at(file, beyond(up(at), field)));
-    }
-    let lowest = wide(byte_at(file, beyond(at, 3)));
-    let low = wide(byte_at(file, beyond(at, 4)));
-    let high = wide(byte_at(file, beyond(at, 5)));
-    let highest = wide(byte_at(file, beyond(at, 6)));
-    lowest | (low << 8) | (high << 16) | (highest << 24)
+    operands
 }

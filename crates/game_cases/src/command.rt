@@ -1,51 +1,34 @@
 // Cases of the command reader by itself.
-use crate::tally::Tally;
-use game::{Command, Found, command_at};
-use script::{Numbers, wide, word};
+use game::{Command, Unread, command_at};
+use script::Cases;
 
-// Two cases: the command at offset a of the file is that of byte b, and c is the offset after it.
-pub fn kind(t: Tally, file: &[u8], n: Numbers) -> Tally {
-    let found = command_at(file, n.a);
-    match found {
-        Found::Next(command, next) => t.same(n.b, kind_of(command)).same(n.c, next),
-        Found::Missing => t.same(n.b, 0).same(n.c, 0),
-        Found::Unknown => t.same(n.b, 0).same(n.c, 1),
-    }
+// Two cases: the command at an offset is that of this byte, and this is the offset after it.
+pub fn kind(t: &mut Cases, file: &[u8], at: usize, byte: usize, next: usize) {
+    let (code, after) = match command_at(file, at) {
+        Ok((command, after)) => (code_of(command), after),
+        Err(Unread::Cut) => (0, 0),
+        Err(Unread::Unknown) => (0, 1),
+    };
+    t.same(byte, code);
+    t.same(next, after);
 }
 
-fn kind_of(command: Command) -> usize {
+fn code_of(command: Command) -> usize {
     match command {
-        Command::Sizes {
-            control: _,
-            states: _,
-            letters: _,
-        } => 1,
-        Command::Abelard { state: _ } => 2,
-        Command::Final { state: _ } => 3,
-        Command::Rule {
-            from: _,
-            top: _,
-            to: _,
-            count: _,
-            above: _,
-            below: _,
-        } => 4,
-        Command::Target {
-            state: _,
-            letter: _,
-            set: _,
-        } => 5,
+        Command::Sizes { .. } => 1,
+        Command::Abelard { .. } => 2,
+        Command::Final { .. } => 3,
+        Command::Rule(_) => 4,
+        Command::Target(_) => 5,
         Command::End => 255,
     }
 }
 
-// One case: operand b of the command at offset a is c.
-pub fn operand(t: Tally, file: &[u8], n: Numbers) -> Tally {
-    let found = command_at(file, n.a);
-    match found {
-        Found::Next(command, _) => t.same(n.c, operand_of(command, n.b)),
-        Found::Missing => t.yes(false),
-        Found::Unknown => t.yes(false),
+// One case: operand i, from 1, of the command at an offset is this number.
+pub fn operand(t: &mut Cases, file: &[u8], at: usize, i: usize, number: usize) {
+    match command_at(file, at) {
+        Ok((command, _)) => t.same(number, operand_of(command, i)),
+        Err(_) => t.yes(false),
     }
 }
 
@@ -55,33 +38,19 @@ fn operand_of(command: Command, i: usize) -> usize {
             control,
             states,
             letters,
-        } => pick(i, wide(control), wide(states), wide(letters)),
-        Command::Abelard { state } => wide(state),
-        Command::Final { state } => wide(state),
-        Command::Rule {
-            from,
-            top,
-            to,
-            count,
-            above,
-            below,
-        } => {
-            if 3 < i {
-                return pick(i - 3, wide(count), wide(above), wide(below));
-            }
-            pick(i, wide(from), wide(top), wide(to))
-        }
-        Command::Target { state, letter, set } => pick(i, wide(state), wide(letter), word(set)),
+        } => pick(i, control, states, usize::from(letters)),
+        Command::Abelard { state } | Command::Final { state } => usize::from(state),
+        Command::Rule(r) if 3 < i => pick(i - 3, r.count, r.above, usize::from(r.below)),
+        Command::Rule(r) => pick(i, r.from, r.top, usize::from(r.to)),
+        Command::Target(t) => pick(i, t.state, t.letter, t.set as usize),
         Command::End => 0,
     }
 }
 
-fn pick(i: usize, one: usize, two: usize, three: usize) -> usize {
-    if i == 1 {
-        return one;
+fn pick(i: usize, one: u8, two: u8, three: usize) -> usize {
+    match i {
+        1 => usize::from(one),
+        2 => usize::from(two),
+        _ => three,
     }
-    if i == 2 {
-        return two;
-    }
-    three
 }

@@ -1,46 +1,38 @@
 // Cases of refused files.
-use crate::accepted::is_nothing;
-use crate::tally::Tally;
+use crate::told::Told;
 use game::Game;
-use script::{Numbers, byte_of, front, put, up};
+use script::{Cases, File, byte_of, front};
 
-// One case: the file is refused by this question at this place, and the game handed out is all zero.
-pub fn refused(t: Tally, file: &[u8], question: u8, place: usize) -> Tally {
-    let reading = Game::read(file);
-    let answer = reading.answer;
-    let game = reading.game;
-    if !is_nothing(game) {
-        return t.yes(false);
+// One case: the file is refused by this question at this place.
+pub fn refused(t: &mut Cases, file: &[u8], question: u8, place: usize) {
+    match Game::read(file) {
+        Ok(_) => t.yes(false),
+        Err(refusal) => t.same(Told::new(question, place), Told::from(refusal)),
     }
-    t.answered(answer, question, place)
 }
 
 // A case for each cut that ends within the command at `start`, and for the one that ends with it, at `end`.
-pub fn cuts(t: Tally, file: &[u8], start: usize, end: usize) -> Tally {
-    let mut tally = t;
-    let mut n = up(start);
-    while n < end {
-        tally = refused(tally, front(file, n), 19, start);
-        n += 1;
+pub fn cuts(t: &mut Cases, file: &[u8], start: usize, end: usize) {
+    for n in after(start)..end {
+        refused(t, front(file, n), 19, start);
     }
-    refused(tally, front(file, end), 8, end)
+    refused(t, front(file, end), 8, end);
 }
 
-// A case for each value of the file's last byte from a to b: refused by question c at d.
-pub fn every_byte(t: Tally, file: &mut [u8], length: usize, n: Numbers) -> Tally {
-    if length < 1 {
-        return t.yes(false);
+// A case for each of these values of the file's last byte: refused by this question at this place.
+pub fn every_byte<const N: usize>(t: &mut Cases, file: &mut File<N>, numbers: [usize; 7]) {
+    let [low, high, question, place, ..] = numbers;
+    let Some(last) = file.len().checked_sub(1) else {
+        t.yes(false);
+        return;
+    };
+    for x in low..after(high) {
+        file.put(last, byte_of(x));
+        refused(t, file.as_slice(), byte_of(question), place);
     }
-    let last = length - 1;
-    let question = byte_of(n.c);
-    let place = n.d;
-    let end = up(n.b);
-    let mut tally = t;
-    let mut x = n.a;
-    while x < end {
-        put(file, last, byte_of(x));
-        tally = refused(tally, front(file, length), question, place);
-        x += 1;
-    }
-    tally
+}
+
+// The number after n. No file is near the number that it stays at.
+fn after(n: usize) -> usize {
+    if n < 1000000 { n + 1 } else { n }
 }

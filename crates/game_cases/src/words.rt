@@ -27,171 +27,118 @@
 //   valid P L            the file's bytes are a position of a game of P control states and L letters
 //   unfit P L PLACE      they are not: question 14, at a place
 //   in SET S BIT         whether state s is in a set, 1 or 0
-use crate::accepted::{accepted, rules_from, stored_at, targets_from};
-use crate::build::put_heads;
+use crate::accepted::{accepted, game_of, has_rules, has_targets};
 use crate::command::{kind, operand};
-use crate::form::{member, position};
 use crate::refused::{cuts, every_byte, refused};
-use crate::tally::Tally;
-use script::{
-    Numbers, after_word, byte_of, front, line_of, numbers_at, put, put_d, put_times, up, value_at,
-    word_at,
-};
-use std::io::Stdout;
+use crate::told::Told;
+use game::{has_state, position_form};
+use script::{Cases, File, Script, byte_of, word_of};
 
-// Where the script is, how long the file is, and the tally.
-#[derive(Clone, Copy)]
-pub struct State {
-    pub at: usize,
-    pub length: usize,
-    pub tally: Tally,
-}
+// The bytes of the buffer.
+const ROOM: usize = 4098;
 
 // All words of a script. Each takes up at least one byte.
-pub fn run(out: Stdout, script: &[u8], file: &mut [u8]) -> Tally {
-    let mut s = State {
-        at: 0,
-        length: 0,
-        tally: Tally::none(out),
-    };
-    let mut left = script.len();
-    while left > 0 {
-        s = turn(s, script, file);
-        left -= 1;
+pub fn run(t: &mut Cases, script: Script<'_>) {
+    let mut script = script;
+    let mut file = File::new();
+    for _ in 0..script.len() {
+        let Some(word) = script.word() else {
+            return;
+        };
+        t.line = script.line();
+        one_word(t, word, &mut script, &mut file);
     }
-    s.tally
 }
 
-// One word with its operands; nothing at the script's end.
-fn turn(s: State, script: &[u8], file: &mut [u8]) -> State {
-    let start = word_at(script, s.at);
-    if script.len() <= start {
-        return s;
-    }
-    let word = script[start];
-    let at = after_word(script, start);
-    let before = s.tally;
-    let t = before.on_line(line_of(script, start));
+// One word with its operands.
+fn one_word(t: &mut Cases, word: u8, script: &mut Script<'_>, file: &mut File<ROOM>) {
     match word {
-        b'f' => list(t, script, at, file, 0),
-        b'm' => list(t, script, at, file, s.length),
-        b'p' => patch(t, script, at, file, s.length),
-        b's' => stored(t, script, at, file, s.length, 16),
-        b'w' => stored(t, script, at, file, s.length, 10),
-        _ => numbers(word, t, script, at, file, s.length),
-    }
-}
-
-// A list of bytes, with which the file ends, from this length on.
-fn list(t: Tally, script: &[u8], at: usize, file: &mut [u8], length: usize) -> State {
-    let mut from = at;
-    let mut to = length;
-    let mut left = script.len();
-    while left > 0 {
-        let v = value_at(script, from, 16);
-        if !v.found {
-            return State {
-                at: from,
-                length: to,
-                tally: t,
-            };
+        b'f' => {
+            file.set_len(0);
+            file.list(script);
         }
-        to = put(file, to, byte_of(v.value));
-        from = v.next;
-        left -= 1;
-    }
-    State {
-        at: from,
-        length: to,
-        tally: t,
-    }
-}
-
-// An offset and a list of bytes, which are put there.
-fn patch(t: Tally, script: &[u8], at: usize, file: &mut [u8], length: usize) -> State {
-    let place = value_at(script, at, 10);
-    let s = list(t, script, place.next, file, place.value);
-    State {
-        at: s.at,
-        length,
-        tally: t,
-    }
-}
-
-// A case for each value of a list: the stored rules begin with these bytes, for base 16, or the stored target transitions
-// with these words, for base 10.
-fn stored(t: Tally, script: &[u8], at: usize, file: &[u8], length: usize, base: usize) -> State {
-    let mut tally = t;
-    let mut from = at;
-    let mut i = 0;
-    let mut left = script.len();
-    while left > 0 {
-        let v = value_at(script, from, base);
-        if !v.found {
-            return State {
-                at: from,
-                length,
-                tally,
-            };
+        b'm' => file.list(script),
+        b'p' => file.patch(script),
+        b's' => {
+            let rules = game_of(file.as_slice()).rules;
+            listed(
+                t,
+                script,
+                16,
+                |i| rules.get(i).copied().map_or(0, usize::from),
+            );
         }
-        tally = tally.same(v.value, stored_at(front(file, length), base, i));
-        i = up(i);
-        from = v.next;
-        left -= 1;
+        b'w' => {
+            let targets = game_of(file.as_slice()).targets;
+            listed(t, script, 10, |i| targets.get(i).map_or(0, |x| *x as usize));
+        }
+        _ => with_numbers(t, word, script.numbers(), file),
     }
-    State {
-        at: from,
-        length,
-        tally,
+}
+
+// A case for each value of a list: what is stored begins with these.
+fn listed<S: Fn(usize) -> usize + Drop>(t: &mut Cases, script: &mut Script<'_>, base: u8, stored: S)
+    requires { S.IsAlwaysCallable stored }
+{
+    for i in 0..script.len() {
+        let Some(expected) = script.value(base) else {
+            return;
+        };
+        t.same(expected, stored(i));
     }
 }
 
 // A word with numbers.
-fn numbers(word: u8, t: Tally, script: &[u8], at: usize, file: &mut [u8], length: usize) -> State {
-    let n = numbers_at(script, at);
+fn with_numbers(t: &mut Cases, word: u8, numbers: [usize; 7], file: &mut File<ROOM>) {
+    let [a, b, c, ..] = numbers;
     match word {
-        b'l' | b'x' | b'd' | b'h' | b'a' => State {
-            at: n.next,
-            length: built(word, n, file, length),
-            tally: t,
-        },
-        b'b' => State {
-            at: n.next,
-            length,
-            tally: every_byte(t, file, length, n),
-        },
-        _ => State {
-            at: n.next,
-            length,
-            tally: tried(word, n, t, front(file, length)),
-        },
+        b'l' => file.set_len(a),
+        b'x' => file.repeat(a, byte_of(b)),
+        b'd' => file.sample_d(a),
+        b'h' => put_heads(file, 4, a, b, |p, l| [p, l, 0, 1, l, 0]),
+        b'a' => put_heads(file, 5, a, b, |q, l| [q, l, byte_of(c), 0, 0, 0]),
+        b'b' => every_byte(t, file, numbers),
+        _ => one_case(t, word, numbers, file.as_slice()),
     }
 }
 
-// The file's length after a word that builds.
-fn built(word: u8, n: Numbers, file: &mut [u8], length: usize) -> usize {
-    match word {
-        b'x' => put_times(file, length, n.a, byte_of(n.b)),
-        b'd' => put_d(file, n.a),
-        b'h' => put_heads(file, length, 4, n.a, n.b, 0),
-        b'a' => put_heads(file, length, 5, n.a, n.b, byte_of(n.c)),
-        _ => n.a,
+// Puts a command with these operands for each of so many states and letters.
+fn put_heads<O: Fn(u8, u8) -> [u8; 6] + Drop>(
+    file: &mut File<ROOM>,
+    code: u8,
+    states: usize,
+    letters: usize,
+    operands: O,
+)
+    requires { O.IsAlwaysCallable operands }
+{
+    for p in 0..states {
+        for a in 0..letters {
+            file.command(code, operands(byte_of(p), byte_of(a)));
+        }
     }
 }
 
 // A case, or an unknown word, which is a case that fails.
-fn tried(word: u8, n: Numbers, t: Tally, file: &[u8]) -> Tally {
+fn one_case(t: &mut Cases, word: u8, numbers: [usize; 7], file: &[u8]) {
+    let [a, b, c, ..] = numbers;
     match word {
-        b'n' => refused(t, file, byte_of(n.a), n.b),
-        b'c' => cuts(t, file, n.a, n.b),
-        b'g' => accepted(t, file, n),
-        b'r' => t.yes(rules_from(file, n.a)),
-        b't' => t.yes(targets_from(file, n.a)),
-        b'k' => kind(t, file, n),
-        b'o' => operand(t, file, n),
-        b'v' => position(t, file, n, 0, 0),
-        b'u' => position(t, file, n, 14, n.c),
-        b'i' => member(t, n),
+        b'n' => refused(t, file, byte_of(a), b),
+        b'c' => cuts(t, file, a, b),
+        b'g' => accepted(t, file, numbers),
+        b'r' => t.yes(has_rules(game_of(file), file, a)),
+        b't' => t.yes(has_targets(game_of(file), file, a)),
+        b'k' => kind(t, file, a, b, c),
+        b'o' => operand(t, file, a, b, c),
+        b'v' => position(t, file, a, b, Told::Done),
+        b'u' => position(t, file, a, b, Told::new(14, c)),
+        b'i' => t.same(c, usize::from(has_state(word_of(a), byte_of(b)))),
         _ => t.yes(false),
     }
+}
+
+// One case: the bytes are a position of a game of so many control states and letters, or the place at which they are not.
+fn position(t: &mut Cases, bytes: &[u8], control: usize, letters: usize, expected: Told) {
+    let answer = position_form(byte_of(control), byte_of(letters), bytes);
+    t.same(expected, Told::from(answer));
 }
