@@ -1,95 +1,73 @@
-// Files, tables and positions built in buffers. Each function answers the offset after what it put; what does not fit the
-// buffer is left out.
-use script::{Numbers, beyond, byte_of, put, put_long, put_times, up, word_of};
+// Tables built in a buffer, and rules in a file.
+use script::{File, byte_of, front, word_of};
 use table::EntryWords;
 
-// A position: a control state, one letter n times, and the bottom.
-pub fn put_high(bytes: &mut [u8], state: usize, letter: usize, n: usize) -> usize {
-    let at = put(bytes, 0, byte_of(state));
-    let end = put_times(bytes, at, n, byte_of(letter));
-    put(bytes, end, 0)
+// The words of the buffer.
+const ROOM: usize = 6150;
+
+// Words, how many of them the table has, and the offset of its next entry. What does not fit the buffer is left out.
+#[derive(Clone, Copy)]
+pub struct Table {
+    words: [u32; ROOM],
+    length: usize,
+    next: usize,
 }
 
-// f rules from state a and letter b to state c, each with two letters written: the pairs of e letters from d on, in order.
-pub fn put_pairs(file: &mut [u8], at: usize, n: Numbers) -> usize {
-    let count = n.f;
-    let mut to = at;
-    let mut i = 0;
-    while i < count {
-        to = put_pair(file, to, n, i);
-        i += 1;
+impl Table {
+    pub fn new() -> Table {
+        Table {
+            words: [0; ROOM],
+            length: 0,
+            next: 0,
+        }
     }
-    to
-}
 
-// The rule of pair i.
-fn put_pair(file: &mut [u8], at: usize, n: Numbers, i: usize) -> usize {
-    let letters = n.e;
-    if letters == 0 {
-        return at;
+    pub fn as_slice(&self) -> &[u32] {
+        front(&self.words, self.length)
     }
-    let above = byte_of(beyond(n.d, i / letters));
-    let below = byte_of(beyond(n.d, i % letters));
-    put_long(
-        file,
-        at,
-        4,
-        [byte_of(n.a), byte_of(n.b), byte_of(n.c), 2, above, below],
-    )
-}
 
-// One word.
-pub fn put_word(words: &mut [u32], at: usize, x: u32) -> usize {
-    if words.len() <= at {
-        return up(at);
+    // A new table of so many words, all 0.
+    pub fn clear(&mut self, length: usize) {
+        self.words.fill(0);
+        self.length = length;
+        self.next = 0;
     }
-    words[at] = x;
-    up(at)
-}
 
-// All words 0.
-pub fn clear(words: &mut [u32]) {
-    let mut i = 0;
-    while i < words.len() {
-        words[i] = 0;
-        i += 1;
+    // One word.
+    pub fn put(&mut self, at: usize, x: u32) {
+        if let Some(word) = self.words.get_mut(at) {
+            *word = x;
+        }
+    }
+
+    // The next entry: state, letter, set, birthdate and rule field.
+    pub fn entry(
+        &mut self,
+        state: usize,
+        letter: usize,
+        set: usize,
+        birthdate: usize,
+        rule: usize,
+    ) {
+        for x in [
+            first_word(state, letter, birthdate),
+            word_of(set),
+            word_of(rule),
+        ] {
+            self.put(self.next, x);
+            self.next = self.next.saturating_add(1);
+        }
+    }
+
+    // Unused entries. No script has so many that the place stays.
+    pub fn skip(&mut self, n: usize) {
+        if self.next <= 10000 && n <= 10000 {
+            self.next += EntryWords::STRIDE * n;
+        }
     }
 }
 
-// An entry of state a, letter b, set c, birthdate d and rule field e.
-pub fn put_entry(words: &mut [u32], at: usize, n: Numbers) -> usize {
-    let at = put_word(words, at, first_word(n.a, n.b, n.d));
-    let at = put_word(words, at, word_of(n.c));
-    put_word(words, at, word_of(n.e))
-}
-
-// f entries like it, with sets from c on.
-pub fn put_sets(words: &mut [u32], at: usize, n: Numbers) -> usize {
-    let first = first_word(n.a, n.b, n.d);
-    let count = n.f;
-    let rule = word_of(n.e);
-    let mut set = n.c;
-    let mut to = at;
-    let mut i = 0;
-    while i < count {
-        to = put_three(words, to, first, word_of(set), rule);
-        set = next_set(set);
-        i += 1;
-    }
-    to
-}
-
-fn put_three(words: &mut [u32], at: usize, first: u32, set: u32, rule: u32) -> usize {
-    let at = put_word(words, at, first);
-    let at = put_word(words, at, set);
-    put_word(words, at, rule)
-}
-
-// The set after a set in the order of sets.
-fn next_set(set: usize) -> usize {
-    if set < 4294967295 { set + 1 } else { set }
-}
-
+// The first word of an entry; a number that is beyond 16 bits alone.
 fn first_word(state: usize, letter: usize, birthdate: usize) -> u32 {
     if 65535 < state {
         return word_of(state);
@@ -103,21 +81,25 @@ fn first_word(state: usize, letter: usize, birthdate: usize) -> u32 {
     word_of(state + 256 * letter + 65536 * birthdate)
 }
 
-// The offset in words after so many unused entries.
-pub fn skip(at: usize, n: usize) -> usize {
-    if 10000 < at {
-        return at;
+// So many rules from state and letter to a state, each with two letters written: the pairs of `letters` letters from `first` on, in order.
+pub fn put_pairs<const N: usize>(file: &mut File<N>, numbers: [usize; 7]) {
+    let [state, letter, to, first, letters, count, _] = numbers;
+    if letters == 0 {
+        return;
     }
-    if 10000 < n {
-        return at;
+    for i in 0..count {
+        let above = byte_of(first.saturating_add(i / letters));
+        let below = byte_of(first.saturating_add(i % letters));
+        file.command(
+            4,
+            [
+                byte_of(state),
+                byte_of(letter),
+                byte_of(to),
+                2,
+                above,
+                below,
+            ],
+        );
     }
-    at + EntryWords::STRIDE * n
-}
-
-// The first n words; all of them where there are fewer.
-pub fn front_words(words: &[u32], n: usize) -> &[u32] {
-    if words.len() < n {
-        return words;
-    }
-    &words[..n]
 }

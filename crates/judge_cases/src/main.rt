@@ -6,42 +6,18 @@
 #![tactic(auto)]
 
 mod build;
-mod tally;
 mod told;
 mod words;
 
-use crate::tally::Tally;
 use crate::words::run;
 use output::read_full;
+use script::{Cases, Script};
 use std::io;
-use std::io::{Read, Stdout};
 
 fn main(rt: HostRuntime) -> io::Result<()> {
-    let mut script = [0u8; 65536];
-    let mut file = [0u8; 4098];
-    let mut table = [0u32; 6150];
-    let mut position = [0u8; 300];
-    let mut input = rt.stdin();
-    let t = every_case(
-        &mut input,
-        rt.stdout(),
-        &mut script,
-        &mut file,
-        &mut table,
-        &mut position,
-    )?;
-    t.print()
-}
-
-// The cases of the script that is read into the first buffer, with files, tables and positions built in the others.
-fn every_case(
-    input: &mut impl Read,
-    out: Stdout,
-    script: &mut [u8],
-    file: &mut [u8],
-    table: &mut [u32],
-    position: &mut [u8],
-) -> io::Result<Tally> {
-    let n = read_full(input, script)?;
-    Ok(run(out, &script[..n], file, table, position))
+    let mut buffer = [0u8; 65536];
+    let text = read_full(&mut rt.stdin(), &mut buffer)?;
+    let mut t = Cases::new(rt.stdout());
+    run(&mut t, Script::new(text));
+    t.print("judge")
 }

@@ -1,74 +1,79 @@
-// A verdict as numbers, so that two can be compared and printed.
+// A judgement as a script writes it: a word and two numbers, so that two can be compared and printed.
+use game::Refusal;
 use judge::Verdict;
-use std::io;
-use std::io::Stdout;
+use std::fmt;
 
-// The kind, and two numbers whose meaning it gives.
-#[derive(Clone, Copy)]
+#[derive(Clone, Copy, Debug, PartialEq, Eq)]
+pub enum Kind {
+    Lost,
+    Target,
+    Eloise,
+    Abelard,
+    Refused,
+}
+
+impl Kind {
+    // The kind of a verdict by the first letter of its word.
+    pub fn of_letter(letter: u8) -> Option<Kind> {
+        match letter {
+            b'l' => Some(Kind::Lost),
+            b't' => Some(Kind::Target),
+            b'e' => Some(Kind::Eloise),
+            b'a' => Some(Kind::Abelard),
+            _ => None,
+        }
+    }
+}
+
+impl fmt::Display for Kind {
+    fn fmt<W: fmt::Write>(&self, f: &mut fmt::Formatter<W>) -> fmt::Result {
+        f.write_str(match self {
+            Kind::Lost => "lost",
+            Kind::Target => "target",
+            Kind::Eloise => "eloise",
+            Kind::Abelard => "abelard",
+            Kind::Refused => "refused",
+        })
+    }
+}
+
+// The kind, and two numbers: the rule's number plus 1, or 0, and 0 of a lost position; rule and bound; bound and 0; question and place.
+#[derive(Clone, Copy, Debug, PartialEq, Eq)]
 pub struct Told {
-    pub kind: u8,
+    pub kind: Kind,
     pub first: u64,
     pub second: u64,
 }
 
 impl Told {
-    pub const LOST: u8 = 0;
-
-    pub const TARGET: u8 = 1;
-
-    pub const ELOISE: u8 = 2;
-
-    pub const ABELARD: u8 = 3;
-
-    pub const REFUSED: u8 = 4;
-
-    // Rule and 0 for lost; rule and bound; bound and 0; question and place.
-    pub fn of(verdict: Verdict) -> Told {
-        match verdict {
-            Verdict::Lost { rule } => Told::new(Told::LOST, rule as u64, 0),
-            Verdict::Target => Told::new(Told::TARGET, 0, 0),
-            Verdict::Eloise { rule, bound } => Told::new(Told::ELOISE, rule as u64, bound),
-            Verdict::Abelard { bound } => Told::new(Told::ABELARD, bound, 0),
-            Verdict::Refused { question, place } => {
-                Told::new(Told::REFUSED, question as u64, place as u64)
-            }
-        }
-    }
-
-    pub fn new(kind: u8, first: u64, second: u64) -> Told {
+    pub fn new(kind: Kind, first: u64, second: u64) -> Told {
         Told {
             kind,
             first,
             second,
         }
     }
+}
 
-    pub fn is_same(self, other: Told) -> bool {
-        if self.kind != other.kind {
-            return false;
+impl From<Result<Verdict, Refusal>> for Told {
+    fn from(judged: Result<Verdict, Refusal>) -> Told {
+        match judged {
+            Ok(Verdict::Lost { rule }) => {
+                Told::new(Kind::Lost, rule.map_or(0, |r| u64::from(r) + 1), 0)
+            }
+            Ok(Verdict::Target) => Told::new(Kind::Target, 0, 0),
+            Ok(Verdict::Eloise { rule, bound }) => Told::new(Kind::Eloise, u64::from(rule), bound),
+            Ok(Verdict::Abelard { bound }) => Told::new(Kind::Abelard, bound, 0),
+            Err(refusal) => {
+                let question = u64::from(refusal.question.number());
+                Told::new(Kind::Refused, question, refusal.place as u64)
+            }
         }
-        if self.first != other.first {
-            return false;
-        }
-        self.second == other.second
-    }
-
-    pub fn print(self, out: Stdout) -> io::Result<()> {
-        print_kind(out, self.kind)?;
-        out.write_all(b" ")?;
-        out.print(self.first)?;
-        out.write_all(b" ")?;
-        out.print(self.second)
     }
 }
 
-fn print_kind(out: Stdout, kind: u8) -> io::Result<()> {
-    match kind {
-        Told::LOST => out.write_all(b"lost"),
-        Told::TARGET => out.write_all(b"target"),
-        Told::ELOISE => out.write_all(b"eloise"),
-        Told::ABELARD => out.write_all(b"abelard"),
-        Told::REFUSED => out.write_all(b"refused"),
-        _ => Ok(()),
+impl fmt::Display for Told {
+    fn fmt<W: fmt::Write>(&self, f: &mut fmt::Formatter<W>) -> fmt::Result {
+        write!(f, "{} {} {}", self.kind, self.first, self.second)
     }
 }
