@@ -1,246 +1,207 @@
 // Direct calls over parts of the sample's table, whose answers are known: each kind of call is made at every entry that it fits, and is
 // counted apart.
-ghost use Rattle.std.specs.Prelude.{◌≡◌, ◌<◌, ◌≤◌, length};
-ghost use Rattle.game.specs.Held.{Safe};
+ghost use Rattle.std.specs.Prelude.{◌≤◌, ◌<◌};
 ghost use Rattle.table_cases.specs.Sample.{sample_entries, sample_words, far_index};
 
-use crate::damage::{Damage, damaged};
-use crate::entries::{ENTRIES, USED, WORDS, entry_at, fields_of};
-use crate::expected::Expected;
-use crate::tally::{Case, Tally};
-use game::{Answer, Sizes};
-use output::Line;
-use std::io::Stdout;
+use crate::cases::{Case, What, same};
+use crate::damage::{Damage, Kind};
+use crate::entries::{ENTRIES, Sample, USED, WORDS, entry_at, fields_of};
+use crate::expected::{Expected, Why};
+use game::Refusal;
+use output::Tally;
+use std::fmt;
 use table::{EntryWords, entries_form};
+
+#[derive(Clone, Copy, Debug, PartialEq, Eq)]
+pub enum Call {
+    Empty,
+    FromStart,
+    AfterUnused,
+    AfterEqual,
+    FromIndex,
+    LeftOver,
+}
+
+impl Call {
+    const ALL: [Call; 6] = [
+        Call::Empty,
+        Call::FromStart,
+        Call::AfterUnused,
+        Call::AfterEqual,
+        Call::FromIndex,
+        Call::LeftOver,
+    ];
+
+    // The start of the line of its calls.
+    fn heading(self) -> &'static str {
+        match self {
+            Call::Empty => "empty parts",
+            Call::FromStart => "parts from index 0, any entry before",
+            Call::AfterUnused => "parts after an unused entry",
+            Call::AfterEqual => "parts after an entry of the same key",
+            Call::FromIndex => "parts from index 1,000",
+            Call::LeftOver => "words left over at the end of a part",
+        }
+    }
+}
+
+impl fmt::Display for Call {
+    fn fmt<W: fmt::Write>(&self, f: &mut fmt::Formatter<W>) -> fmt::Result {
+        f.write_str(match self {
+            Call::Empty => "empty part",
+            Call::FromStart => "part from index 0",
+            Call::AfterUnused => "part after an unused entry",
+            Call::AfterEqual => "part after an equal key",
+            Call::FromIndex => "part from an index",
+            Call::LeftOver => "words left over",
+        })
+    }
+}
 
 // An index beyond those of the table.
 const FAR: usize = 1000;
 
 // All kinds of calls, each with its line.
-pub fn every_call(t: Tally, sizes: Sizes, rules: &[u8], table: &[u32], words: &mut [u32]) -> Tally
-    requires { Safe sizes rules.now × (length table.now ≡ sample_words) × (length words.old ≡ sample_words) }
-{
-    let mut t = t;
-    let mut what = Case::EMPTY;
-    while what <= Case::LEFT_OVER {
-        let c = every_place(t.out, what, sizes, rules, table, words);
-        let _ = c.print_after(heading(Line::new(), what));
-        t = t.and(c);
-        what += 1;
-    }
-    t
-}
-
-fn heading(line: Line, what: usize) -> Line {
-    match what {
-        Case::EMPTY => line.word(b"empty parts: "),
-        Case::FROM_START => line.word(b"parts from index 0, any entry before: "),
-        Case::AFTER_UNUSED => line.word(b"parts after an unused entry: "),
-        Case::AFTER_EQUAL => line.word(b"parts after an entry of the same key: "),
-        Case::FROM_INDEX => line.word(b"parts from index 1,000: "),
-        _ => line.word(b"words left over at the end of a part: "),
+pub fn every_call(t: &mut Tally, sample: &Sample<'_>) {
+    for call in Call::ALL {
+        let mut c = Tally::new(t.out);
+        for i in 0..ENTRIES {
+            one_call(&mut c, call, sample, i);
+        }
+        let _ = t.out.println(format_args!(
+            "{}: {} checks, {} failed",
+            call.heading(),
+            c.tried,
+            c.failed
+        ));
+        t.add(c);
     }
 }
 
-// The calls of one kind.
-fn every_place(
-    out: Stdout,
-    what: usize,
-    sizes: Sizes,
-    rules: &[u8],
-    table: &[u32],
-    words: &mut [u32],
-) -> Tally
-    requires { Safe sizes rules.now × (length table.now ≡ sample_words) × (length words.old ≡ sample_words) }
+// The calls of a kind at an entry that it fits.
+fn one_call(t: &mut Tally, call: Call, sample: &Sample<'_>, i: usize)
+    requires { i < sample_entries }
 {
-    let mut t = Tally::none(out);
-    let mut i = 0;
-    while i < ENTRIES {
-        t = one_place(t, what, sizes, rules, table, words, i);
-        i += 1;
-    }
-    t
-}
-
-fn one_place(
-    t: Tally,
-    what: usize,
-    sizes: Sizes,
-    rules: &[u8],
-    table: &[u32],
-    words: &mut [u32],
-    i: usize,
-) -> Tally
-    requires { Safe sizes rules.now × (length table.now ≡ sample_words) × (length words.old ≡ sample_words) × (i < sample_entries) }
-{
-    match what {
-        Case::EMPTY => empty(t, sizes, rules, table, i),
-        Case::FROM_START => from_start(t, sizes, rules, table, i),
-        Case::AFTER_UNUSED => after_unused(t, sizes, rules, table, i),
-        Case::AFTER_EQUAL => after_equal(t, sizes, rules, table, i),
-        Case::FROM_INDEX => from_index(t, sizes, rules, table, words, i),
-        _ => left_over(t, sizes, rules, table, words, i),
+    match call {
+        Call::Empty => empty(t, sample, i),
+        Call::FromStart => from_start(t, sample, i),
+        Call::AfterUnused if 0 < i => after_unused(t, sample, i),
+        Call::AfterEqual if 0 < i && i < USED => after_equal(t, sample, i),
+        Call::FromIndex if 0 < i && i < USED => from_index(t, sample, i),
+        Call::LeftOver if i < USED => left_over(t, sample, i),
+        _ => {}
     }
 }
 
 // What `entries_form` answers to the words from one offset to another, as a part of which index and entry before are these.
 fn form_at(
-    sizes: Sizes,
-    rules: &[u8],
+    sample: &Sample<'_>,
     first: usize,
     before: EntryWords,
-    words: &[u32],
+    words: &[u32; WORDS],
     from: usize,
     to: usize,
-) -> Answer
-    requires { Safe sizes rules.now × (length words.now ≡ sample_words) × (first ≤ far_index) × (from ≤ to) × (to ≤ sample_words) }
+) -> Result<(), Refusal>
+    requires { (first ≤ far_index) × (from ≤ to) × (to ≤ sample_words) }
 {
-    entries_form(sizes, rules, first, before, &words[from..to])
+    entries_form(sample.sizes, sample.rules, first, before, &words[from..to])
+}
+
+fn case_of(call: Call, i: usize) -> Case {
+    Case {
+        what: What::Called(call),
+        entry: i,
+        cut: i,
+    }
 }
 
 // No entry fails where there is none.
-fn empty(t: Tally, sizes: Sizes, rules: &[u8], table: &[u32], i: usize) -> Tally
-    requires { Safe sizes rules.now × (length table.now ≡ sample_words) × (i < sample_entries) }
+fn empty(t: &mut Tally, sample: &Sample<'_>, i: usize)
+    requires { i < sample_entries }
 {
+    let table = sample.table;
     let at = i * EntryWords::STRIDE;
-    let got = form_at(sizes, rules, i, entry_at(table, i), table, at, at);
-    t.same(Case::new(Case::EMPTY, i, i), Expected::sound(USED), got)
+    let got = form_at(sample, i, entry_at(table, i), table, at, at);
+    same(
+        t,
+        case_of(Call::Empty, i),
+        Expected::Sound { used: USED },
+        got,
+    );
 }
 
 // The first entry of a table has none before it, whatever is handed in its place.
-fn from_start(t: Tally, sizes: Sizes, rules: &[u8], table: &[u32], i: usize) -> Tally
-    requires { Safe sizes rules.now × (length table.now ≡ sample_words) × (i < sample_entries) }
-{
-    let got = form_at(sizes, rules, 0, entry_at(table, i), table, 0, WORDS);
-    t.same(
-        Case::new(Case::FROM_START, i, i),
-        Expected::sound(USED),
+fn from_start(t: &mut Tally, sample: &Sample<'_>, i: usize) {
+    let table = sample.table;
+    let got = form_at(sample, 0, entry_at(table, i), table, 0, WORDS);
+    same(
+        t,
+        case_of(Call::FromStart, i),
+        Expected::Sound { used: USED },
         got,
-    )
+    );
 }
 
 // The first entry of the part fails if it is used, and so are those after it, of which it is the first.
-fn after_unused(t: Tally, sizes: Sizes, rules: &[u8], table: &[u32], i: usize) -> Tally
-    requires { Safe sizes rules.now × (length table.now ≡ sample_words) × (i < sample_entries) }
+fn after_unused(t: &mut Tally, sample: &Sample<'_>, i: usize)
+    requires { i < sample_entries }
 {
-    if i == 0 {
-        return t;
-    }
     let at = i * EntryWords::STRIDE;
-    let got = form_at(sizes, rules, i, EntryWords::none(), table, at, WORDS);
-    t.same(Case::new(Case::AFTER_UNUSED, i, i), unless_unused(i), got)
-}
-
-fn unless_unused(i: usize) -> Expected {
-    if i < USED {
-        return Expected::refused(Expected::UNUSED, i);
-    }
-    Expected::sound(USED)
+    let got = form_at(sample, i, EntryWords::none(), sample.table, at, WORDS);
+    let expected = if i < USED {
+        Expected::refused(Why::Unused, i)
+    } else {
+        Expected::Sound { used: USED }
+    };
+    same(t, case_of(Call::AfterUnused, i), expected, got);
 }
 
 // An entry fails after itself, and after one of the same state, letter and set with another birthdate.
-fn after_equal(t: Tally, sizes: Sizes, rules: &[u8], table: &[u32], i: usize) -> Tally
-    requires { Safe sizes rules.now × (length table.now ≡ sample_words) × (i < sample_entries) }
+fn after_equal(t: &mut Tally, sample: &Sample<'_>, i: usize)
+    requires { i < sample_entries }
 {
-    if i == 0 {
-        return t;
+    let other = Kind::BirthdateBeyond.damaged(fields_of(i));
+    for before in [entry_at(sample.table, i), other.words()] {
+        let at = i * EntryWords::STRIDE;
+        let got = form_at(sample, i, before, sample.table, at, WORDS);
+        let expected = Expected::refused(Why::Equal, i);
+        same(t, case_of(Call::AfterEqual, i), expected, got);
     }
-    if USED <= i {
-        return t;
-    }
-    let t = after_entry(t, sizes, rules, table, i, entry_at(table, i));
-    let other = damaged(Damage::BIRTHDATE_BEYOND, fields_of(i));
-    after_entry(t, sizes, rules, table, i, other.words())
-}
-
-fn after_entry(
-    t: Tally,
-    sizes: Sizes,
-    rules: &[u8],
-    table: &[u32],
-    i: usize,
-    before: EntryWords,
-) -> Tally
-    requires { Safe sizes rules.now × (length table.now ≡ sample_words) × (i < sample_entries) }
-{
-    let at = i * EntryWords::STRIDE;
-    let got = form_at(sizes, rules, i, before, table, at, WORDS);
-    let expected = Expected::refused(Expected::EQUAL, i);
-    t.same(Case::new(Case::AFTER_EQUAL, i, i), expected, got)
 }
 
 // The entries from entry 1 on, counted from another index, one of them damaged: its place is counted from there too.
-fn from_index(
-    t: Tally,
-    sizes: Sizes,
-    rules: &[u8],
-    table: &[u32],
-    words: &mut [u32],
-    i: usize,
-) -> Tally
-    requires { Safe sizes rules.now × (length words.old ≡ sample_words) × (i < sample_entries) }
+fn from_index(t: &mut Tally, sample: &Sample<'_>, i: usize)
+    requires { (0 < i) × (i < sample_entries) }
 {
-    if i == 0 {
-        return t;
-    }
-    if USED <= i {
-        return t;
-    }
     let damage = Damage {
-        kind: Damage::RULE_OTHER,
+        kind: Kind::RuleOther,
         entry: i,
     };
-    damage.put(table, words);
-    let before = entry_at(words, 0);
-    let got = form_at(sizes, rules, FAR, before, words, EntryWords::STRIDE, WORDS);
-    let expected = Expected::refused(Expected::ALONE, FAR + i - 1);
-    t.same(Case::new(Case::FROM_INDEX, i, i), expected, got)
+    let words = damage.of(sample.table);
+    let before = entry_at(&words, 0);
+    let got = form_at(sample, FAR, before, &words, EntryWords::STRIDE, WORDS);
+    let expected = Expected::refused(Why::Alone, FAR + i - 1);
+    same(t, case_of(Call::FromIndex, i), expected, got);
 }
 
 // A part that ends with one or two words of a damaged entry, which are not looked at, and one that ends with the whole entry.
-fn left_over(
-    t: Tally,
-    sizes: Sizes,
-    rules: &[u8],
-    table: &[u32],
-    words: &mut [u32],
-    i: usize,
-) -> Tally
-    requires { Safe sizes rules.now × (length words.old ≡ sample_words) × (i < sample_entries) }
+fn left_over(t: &mut Tally, sample: &Sample<'_>, i: usize)
+    requires { i < sample_entries }
 {
-    if USED <= i {
-        return t;
-    }
     let damage = Damage {
-        kind: Damage::RULE_BEYOND,
+        kind: Kind::RuleBeyond,
         entry: i,
     };
-    damage.put(table, words);
-    endings(t, sizes, rules, words, i)
-}
-
-fn endings(t: Tally, sizes: Sizes, rules: &[u8], words: &[u32], i: usize) -> Tally
-    requires { Safe sizes rules.now × (length words.now ≡ sample_words) × (i < sample_entries) }
-{
-    let to = i * EntryWords::STRIDE;
-    let t = ending(t, sizes, rules, words, i, to + 1, Expected::sound(i));
-    let t = ending(t, sizes, rules, words, i, to + 2, Expected::sound(i));
-    let refused = Expected::refused(Expected::ALONE, i);
-    ending(t, sizes, rules, words, i, to + 3, refused)
-}
-
-// The part from index 0 to an offset.
-fn ending(
-    t: Tally,
-    sizes: Sizes,
-    rules: &[u8],
-    words: &[u32],
-    i: usize,
-    to: usize,
-    expected: Expected,
-) -> Tally
-    requires { Safe sizes rules.now × (length words.now ≡ sample_words) × (to ≤ sample_words) }
-{
-    let got = form_at(sizes, rules, 0, EntryWords::none(), words, 0, to);
-    t.same(Case::new(Case::LEFT_OVER, i, i), expected, got)
+    let words = damage.of(sample.table);
+    let case = case_of(Call::LeftOver, i);
+    for left in 1..EntryWords::STRIDE + 1 {
+        let to = i * EntryWords::STRIDE + left;
+        let got = form_at(sample, 0, EntryWords::none(), &words, 0, to);
+        let expected = if left < EntryWords::STRIDE {
+            Expected::Sound { used: i }
+        } else {
+            Expected::refused(Why::Alone, i)
+        };
+        same(t, case, expected, got);
+    }
 }

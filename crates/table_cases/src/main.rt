@@ -7,101 +7,71 @@
 #![tactic(auto)]
 
 mod calls;
+mod cases;
 mod cuts;
 mod damage;
 mod entries;
 mod expected;
 mod parts;
-mod tally;
-
-ghost use Rattle.std.specs.Prelude.{◌≡◌, length};
-ghost use Rattle.game.specs.Game.{PushdownGame};
-ghost use Rattle.game.specs.GoodGame.{Ranged};
-ghost use Rattle.game.specs.Held.{Safe};
-ghost use Rattle.game.specs.Stored.{stored};
-ghost use Rattle.table_cases.specs.Sample.{sample_words};
 
 use crate::calls::every_call;
+use crate::cases::{Case, What};
 use crate::cuts::every_group;
-use crate::entries::{ENTRIES, LETTERS, WORDS, entry_at, fields_of, is_same};
-use crate::tally::{Case, Tally};
-use game::{Answer, Game, Sizes};
-use output::refusal;
-use script::{front, put_d};
+use crate::entries::{ENTRIES, LETTERS, Sample, WORDS, entry_at, fields_of};
+use game::Game;
+use output::Tally;
+use script::File;
 use solver::solve;
 use std::io;
 use std::io::Stdout;
 
-// The file is built in the first buffer. The last has the table with one entry damaged.
+// Solves the sample.
 fn main(rt: HostRuntime) -> io::Result<()> {
-    let mut file = [0u8; 512];
-    let mut table = [0u32; WORDS];
-    let mut work = [0u32; WORDS];
-    let mut words = [0u32; WORDS];
-    every_check(rt.stdout(), &mut file, &mut table, &mut work, &mut words)
+    let mut file = File::<512>::new();
+    file.sample_d(LETTERS);
+    let mut table = [0; WORDS];
+    let mut work = [0; WORDS];
+    let _ = solve(file.as_slice(), &mut table, &mut work);
+    over_file(rt.stdout(), file.as_slice(), &table)
 }
 
-// Solves the sample and makes all checks over its table.
-fn every_check(
-    out: Stdout,
-    file: &mut [u8],
-    table: &mut [u32],
-    work: &mut [u32],
-    words: &mut [u32],
-) -> io::Result<()>
-    requires { (length table.old ≡ sample_words) × (length words.old ≡ sample_words) }
-{
-    let n = put_d(file, LETTERS);
-    solve(front(file, n), table, work);
-    over_file(out, front(file, n), table, words)
-}
-
-// Reads the file, for its sizes and rules.
-fn over_file(out: Stdout, file: &[u8], table: &[u32], words: &mut [u32]) -> io::Result<()>
-    requires { (length table.now ≡ sample_words) × (length words.old ≡ sample_words) }
-{
-    let reading = Game::read(file);
-    let answer = reading.answer;
-    if let Answer::Refused { question, place } = answer {
-        return refusal(question, place).print(&out);
-    }
-    let game = reading.game;
-    over_game(out, game, table, words)
-}
-
-fn over_game(out: Stdout, game: Game, table: &[u32], words: &mut [u32]) -> io::Result<()>
-    requires { (g : PushdownGame) × (game ≡ stored g) × Ranged g × (length table.now ≡ sample_words) × (length words.old ≡ sample_words) }
-{
-    let sizes = game.sizes();
+// Reads the file, for its sizes and rules, and makes all checks over its table.
+fn over_file(out: Stdout, file: &[u8], table: &[u32; WORDS]) -> io::Result<()> {
+    let game = match Game::read(file) {
+        Ok(game) => game,
+        Err(refusal) => return println!(out; "{refusal}"),
+    };
     let rules = game.rules;
-    over_rules(out, sizes, &rules, table, words)
+    let sample = Sample {
+        sizes: game.sizes(),
+        rules: &rules,
+        table,
+    };
+    every_check(out, &sample)
 }
 
-fn over_rules(
-    out: Stdout,
-    sizes: Sizes,
-    rules: &[u8],
-    table: &[u32],
-    words: &mut [u32],
-) -> io::Result<()>
-    requires { Safe sizes rules.now × (length table.now ≡ sample_words) × (length words.old ≡ sample_words) }
-{
-    let t = every_entry(out, table);
-    t.print(b"entries of sample D: ")?;
-    let t = every_group(t, sizes, rules, table, words);
-    let t = every_call(t, sizes, rules, table, words);
-    t.print(b"in all: ")
+fn every_check(out: Stdout, sample: &Sample<'_>) -> io::Result<()> {
+    let mut t = every_entry(out, sample.table);
+    println!(out;
+        "entries of sample D: {} checks, {} failed",
+        t.tried, t.failed
+    )?;
+    every_group(&mut t, sample);
+    every_call(&mut t, sample);
+    println!(out; "in all: {} checks, {} failed", t.tried, t.failed)
 }
 
 // The table's entries are those that the kinds of damage start from.
-fn every_entry(out: Stdout, table: &[u32]) -> Tally {
-    let mut t = Tally::none(out);
-    let mut i = 0;
-    while i < ENTRIES {
-        let expected = fields_of(i).words();
-        let same = is_same(entry_at(table, i), expected);
-        t = t.held(Case::new(Case::ENTRY, i, 0), same);
-        i += 1;
+fn every_entry(out: Stdout, table: &[u32; WORDS]) -> Tally {
+    let mut t = Tally::new(out);
+    for i in 0..ENTRIES {
+        let case = Case {
+            what: What::Entry,
+            entry: i,
+            cut: 0,
+        };
+        let same = entry_at(table, i) == fields_of(i).words();
+        t.check(same, format_args!("failed: {case}"));
     }
     t
 }

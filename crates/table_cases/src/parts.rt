@@ -5,19 +5,16 @@ ghost use Rattle.game.specs.Held.{Held, Safe};
 ghost use Rattle.game.specs.Outcome.{said};
 ghost use Rattle.table.specs.Table.{entry_stride, length_in_form, table_form};
 
-use game::{Answer, Sizes};
+use game::{Refusal, Sizes};
 use table::{EntryWords, entries_form};
 
 // 13 of a table by two calls: of the entries before the cut and, if they pass, of those from it on, with the entry before them.
-pub fn form_of_parts(sizes: Sizes, rules: &[u8], words: &[u32], cut: usize) -> Answer
+pub fn form_of_parts(sizes: Sizes, rules: &[u8], words: &[u32], cut: usize) -> Result<(), Refusal>
     requires { Safe sizes rules.now × (length_in_form (length words.now) ≡ true) × (0 < cut) × (cut * entry_stride ≤ length words.now) }
     ensures { (g : PushdownGame) → Held g sizes rules.now → said result ≡ table_form g words.now }
 {
     let n = cut * EntryWords::STRIDE;
-    let answer = entries_form(sizes, rules, 0, EntryWords::none(), &words[..n]);
-    let Answer::Done = answer else {
-        return answer;
-    };
+    entries_form(sizes, rules, 0, EntryWords::none(), &words[..n])?;
     entries_form(
         sizes,
         rules,

@@ -1,8 +1,9 @@
-use Rattle.game.specs.Held.{was_read}
+use mathlib.Core.Path.{ap, ◌∙◌}
+use Rattle.game.specs.Held.{held, safe, was_read}
+use Rattle.game.specs.Stored.{held_sizes}
 use Rattle.table_cases.proofs.over_file.Goals as goal
 
-pub over_game-requires : goal.over_game-requires
-over_game-requires c =
-    let pre = c.requires in
-    let x = was_read _ _ c.read-reading.ensures c.in_default.is in
-    (x.game, x.stores, x.well.ranged, pre.0, pre.1)
+pub invariant_of-sample : goal.invariant_of-sample
+invariant_of-sample c =
+    let x = was_read _ _ c.read.ensures _ c.in-Ok.is in
+    record { safe = safe x.game _ _ (held _ x.game _ x.stores x.well.ranged (c.sizes.ensures ∙ ap held_sizes x.stores)) }

@@ -6,5 +6,4 @@ use Rattle.table_cases.proofs.cuts.form_of.Goals as goal
 pub form_of_parts-requires : goal.form_of_parts-requires
 unfolding length_in_form
 form_of_parts-requires c =
-    let pre = c.requires in
-    (pre.0, ap length_in_form pre.1, omega arith, omega arith)
+    (c.args.sample.now.safe, ap length_in_form c.told-words, omega arith, omega arith)
