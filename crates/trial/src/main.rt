@@ -15,35 +15,29 @@ mod games;
 mod plain;
 mod plays;
 mod samples;
-mod tally;
 mod told;
 mod trials;
 
+use crate::cases::Areas;
 use crate::edges::every_edge;
 use crate::samples::{every_d, every_small};
 use crate::trials::every_game;
 use std::io;
 
-// Files are built in the first buffer. The areas have room for more words than may be lent.
 fn main(rt: HostRuntime) -> io::Result<()> {
-    let mut file = [0u8; 5000];
-    let mut position = [0u8; 300];
-    let mut table = [0u32; 6150];
-    let mut work = [0u32; 6150];
-    let mut other = [0u32; 6150];
     let out = rt.stdout();
-    let small = every_small(out, &mut position, &mut table, &mut work, &mut other);
-    small.print(b"samples A, B and C: ")?;
-    let d = every_d(out, &mut file, &mut table, &mut work, &mut other);
-    d.print(b"sample D with 1 to 41 letters: ")?;
-    let edges = every_edge(
-        out,
-        &mut file,
-        &mut position,
-        &mut table,
-        &mut work,
-        &mut other,
-    );
-    edges.print(b"edges: ")?;
-    every_game(out, &mut file, &mut position, &mut table, &mut work)
+    let mut areas = Areas::new();
+    let small = every_small(out, &mut areas);
+    println!(rt;
+        "samples A, B and C: {} checks, {} failed",
+        small.tried, small.failed
+    )?;
+    let d = every_d(out, &mut areas);
+    println!(rt;
+        "sample D with 1 to 41 letters: {} checks, {} failed",
+        d.tried, d.failed
+    )?;
+    let edges = every_edge(out, &mut areas);
+    println!(rt; "edges: {} checks, {} failed", edges.tried, edges.failed)?;
+    every_game(out, rt.alloc(), &mut areas)?.print(&rt)
 }

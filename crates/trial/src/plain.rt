@@ -1,171 +1,129 @@
 // The plain solver, written apart from the library: it tries moves up to a depth, Éloise some rule and Abelard every rule, and
 // reads the target automaton as document 01 has it. It uses nothing of solver and judge.
-//
-// A stack is a number: its digits of base 8 are the letters above the bottom, the top one lowest. No letter above the bottom is
-// 0, so the number 0 is the bottom alone.
-ghost use Rattle.std.specs.Prelude.{◌<◌};
+ghost use Rattle.std.specs.Iterator.{at_most};
 
-use crate::games::{LONG, Shape};
-use script::{beyond, byte_at, wide};
+use crate::games::{Made, Rule};
+use std::fmt;
 
-pub const BASE: usize = 8;
+const BASE: usize = 8;
 
 // Stacks up to this number can take two letters more.
 pub const TALL: usize = 1000000000000000;
 
-// The position is won in so many moves.
-pub fn wins(file: &[u8], g: Shape, state: usize, stack: usize, depth: usize) -> bool {
-    if is_target(file, g, state, stack) {
-        return true;
+// A control state and a stack. A stack is a number: its digits of base 8 are the letters above the bottom, the top one lowest. No letter
+// above the bottom is 0, so the number 0 is the bottom alone.
+#[derive(Clone, Copy, Debug, Default, PartialEq, Eq)]
+pub struct Position {
+    pub state: u8,
+    pub stack: usize,
+}
+
+impl fmt::Display for Position {
+    fn fmt<W: fmt::Write>(&self, f: &mut fmt::Formatter<W>) -> fmt::Result {
+        write!(f, "state {} stack {}", self.state, self.stack)
     }
-    if depth == 0 {
-        return false;
-    }
-    let all = has(g.abelard, state);
-    let mut i = 0;
-    while i < g.rulecount {
-        if is_of_head(file, g, i, state, stack) {
-            let won = wins(
-                file,
-                g,
-                state_after(file, g, i),
-                stack_after(file, g, i, stack),
-                depth - 1,
-            );
-            if won != all {
-                return won;
-            }
+}
+
+// The letters of a stack above the bottom, from the top down.
+#[derive(Clone, Copy)]
+pub struct Letters(pub usize);
+
+impl Iterator for Letters {
+    type Item = u8;
+
+    ghost remaining = { λ s. at_most s.0 };
+
+    fn next(&mut self) -> Option<u8> {
+        if self.0 == 0 {
+            return None;
         }
-        i += 1;
-    }
-    all
-}
-
-// The state is a member of the set.
-pub fn has(set: usize, state: usize) -> bool {
-    set / bit(state) % 2 == 1
-}
-
-// The set of one state below 8.
-fn bit(state: usize) -> usize
-    ensures { 0 < result }
-{
-    match state {
-        0 => 1,
-        1 => 2,
-        2 => 4,
-        3 => 8,
-        4 => 16,
-        5 => 32,
-        6 => 64,
-        _ => 128,
-    }
-}
-
-// The offset of a rule's operands.
-fn rule_at(g: Shape, i: usize) -> usize {
-    beyond(g.rules, beyond(long(i), 1))
-}
-
-// The bytes of i commands 04 or 05.
-fn long(i: usize) -> usize {
-    if 1000 < i {
-        return 0;
-    }
-    LONG * i
-}
-
-// Rule i is one of the position's head.
-pub fn is_of_head(file: &[u8], g: Shape, i: usize, state: usize, stack: usize) -> bool {
-    if g.rulecount <= i {
-        return false;
-    }
-    let at = rule_at(g, i);
-    if operand(file, at, 0) != state {
-        return false;
-    }
-    operand(file, at, 1) == stack % BASE
-}
-
-fn operand(file: &[u8], at: usize, k: usize) -> usize {
-    wide(byte_at(file, beyond(at, k)))
-}
-
-// Operand k of rule i.
-pub fn operand_of(file: &[u8], g: Shape, i: usize, k: usize) -> usize {
-    operand(file, rule_at(g, i), k)
-}
-
-// The control state that rule i leads to.
-pub fn state_after(file: &[u8], g: Shape, i: usize) -> usize {
-    operand(file, rule_at(g, i), 2)
-}
-
-// The stack that rule i leads to.
-pub fn stack_after(file: &[u8], g: Shape, i: usize, stack: usize) -> usize {
-    let at = rule_at(g, i);
-    let rest = stack / BASE;
-    match operand(file, at, 3) {
-        0 => rest,
-        1 => above(rest, operand(file, at, 4)),
-        _ => above(above(rest, operand(file, at, 5)), operand(file, at, 4)),
+        let letter = self.0 % BASE;
+        self.0 /= BASE;
+        Some(letter as u8)
     }
 }
 
 // A stack with a letter more. One that is too tall stays.
-pub fn above(stack: usize, letter: usize) -> usize {
+pub fn above(stack: usize, letter: u8) -> usize {
     if TALL * BASE < stack {
         return stack;
     }
-    stack * BASE + letter % BASE
-}
-
-// The position is in the target: its control state accepts its stack. The states that accept are found from the bottom up.
-pub fn is_target(file: &[u8], g: Shape, state: usize, stack: usize) -> bool {
-    let mut rest = turned(stack);
-    let mut accepting = states_on(file, g, 0, g.finals);
-    while 0 < rest {
-        accepting = states_on(file, g, rest % BASE, accepting);
-        rest /= BASE;
-    }
-    has(accepting, state)
+    stack * BASE + usize::from(letter) % BASE
 }
 
 // The letters above the bottom in the other order.
 pub fn turned(stack: usize) -> usize {
-    let mut rest = stack;
-    let mut out = 0;
-    while 0 < rest {
-        out = above(out, rest % BASE);
-        rest /= BASE;
-    }
-    out
+    Letters(stack).fold(0, above)
 }
 
-// The states that have a transition on the letter all of whose set accepts the rest.
-pub fn states_on(file: &[u8], g: Shape, letter: usize, accepting: usize) -> usize {
-    let mut out = 0;
-    let mut i = 0;
-    while i < g.targetcount {
-        out = with_target(
-            file,
-            beyond(g.targets, beyond(long(i), 1)),
-            letter,
-            accepting,
-            out,
-        );
-        i += 1;
-    }
-    out
+// The set of one state below 8.
+pub fn bit(state: u8) -> u8 {
+    1 << (state % 8)
 }
 
-fn with_target(file: &[u8], at: usize, letter: usize, accepting: usize, out: usize) -> usize {
-    if operand(file, at, 1) != letter {
-        return out;
+impl Rule {
+    pub fn is_of_head(&self, state: u8, letter: u8) -> bool {
+        self.from == state && self.top == letter
     }
-    let set = operand(file, at, 2);
-    if set & accepting != set {
-        return out;
+
+    pub fn is_of(&self, p: Position) -> bool {
+        self.is_of_head(p.state, (p.stack % BASE) as u8)
     }
-    out | bit(operand(file, at, 0))
+
+    // The position that the rule leads to.
+    pub fn played(&self, p: Position) -> Position {
+        let rest = p.stack / BASE;
+        let stack = match self.count {
+            0 => rest,
+            1 => above(rest, self.above),
+            _ => above(above(rest, self.below), self.above),
+        };
+        Position {
+            state: self.to,
+            stack,
+        }
+    }
+}
+
+impl Made {
+    pub fn is_abelards(&self, state: u8) -> bool {
+        self.abelard & bit(state) != 0
+    }
+
+    // The position is won in so many moves.
+    pub fn wins(&self, p: Position, depth: usize) -> bool {
+        if self.is_target(p) {
+            return true;
+        }
+        if depth == 0 {
+            return false;
+        }
+        let all = self.is_abelards(p.state);
+        for rule in self.rules.iter() {
+            if rule.is_of(p) && self.wins(rule.played(p), depth - 1) != all {
+                return !all;
+            }
+        }
+        all
+    }
+
+    // The position is in the target: its control state accepts its stack. The states that accept are found from the bottom up.
+    pub fn is_target(&self, p: Position) -> bool {
+        let mut accepting = self.states_on(0, self.finals);
+        for letter in Letters(turned(p.stack)) {
+            accepting = self.states_on(letter, accepting);
+        }
+        accepting & bit(p.state) != 0
+    }
+
+    // The states that have a transition on the letter all of whose set accepts the rest.
+    pub fn states_on(&self, letter: u8, accepting: u8) -> u8 {
+        let mut states = 0;
+        for target in self.targets.iter() {
+            if target.letter == letter && target.set & accepting == target.set {
+                states |= bit(target.state);
+            }
+        }
+        states
+    }
 }

@@ -2,218 +2,159 @@
 // must make the bound smaller, and the target must be reached within the first bound.
 //
 // It leaves out play against every choice of Abelard's.
-use crate::games::Shape;
-use crate::plain::{BASE, TALL, is_of_head, is_target, stack_after, state_after};
-use crate::told::Told;
-use judge::judge;
-use script::{byte_of, front, put, up};
+use crate::games::{Made, Rule};
+use crate::plain::{Letters, Position, TALL};
+use game::Refusal;
+use judge::{Verdict, judge};
+use script::File;
 
-// A position with what the judge says of it. The rule is Éloise's; of a lost position it is its rule field, the number of Abelard's
-// plus 1, or 0. The bound is Told::NONE where there is none.
+// A game with the table that the solver leaves.
 #[derive(Clone, Copy)]
-pub struct Place {
-    pub state: usize,
-    pub stack: usize,
-    pub kind: usize,
-    pub rule: usize,
-    pub bound: u64,
+pub struct Trial<'a> {
+    pub game: &'a Made,
+    pub table: &'a [u32],
 }
 
-// How a play went: its moves, and whether it was given up as too long, or failed.
-#[derive(Clone, Copy)]
+// The bound of a position for Éloise. A position that is not won has a larger one than any that is.
+#[derive(Clone, Copy, Debug, PartialEq, Eq, PartialOrd, Ord)]
+pub enum Bound {
+    Within(u64),
+    Never,
+}
+
+// A position with what the judge says of it.
+#[derive(Clone, Copy, Debug, PartialEq, Eq)]
+pub struct Place {
+    pub at: Position,
+    pub judged: Result<Verdict, Refusal>,
+}
+
+// How a play ended: in the target within the bound, otherwise, or given up as too long.
+#[derive(Clone, Copy, Debug, PartialEq, Eq)]
+pub enum End {
+    Right,
+    Wrong,
+    Long,
+}
+
+#[derive(Clone, Copy, Debug, PartialEq, Eq)]
 pub struct Played {
     pub moves: usize,
-    pub long: bool,
-    pub failed: bool,
+    pub end: End,
 }
 
-// Of the positions that a head's rules lead to: the least bound, the largest one, and a rule that leads to that; and the number plus 1
-// of the lowest rule that leads to a lost one, or 0.
+// Of the positions that a head's rules lead to: the least bound, the largest one and the last rule that leads to that, and the lowest rule
+// that leads to a lost one.
 #[derive(Clone, Copy)]
 pub struct Spread {
-    pub least: u64,
-    pub largest: u64,
-    pub worst: usize,
-    pub losing: usize,
+    pub least: Bound,
+    pub largest: Bound,
+    pub worst: Option<Rule>,
+    pub losing: Option<usize>,
 }
 
 // A play of more moves is given up.
 const MOST_MOVES: usize = 3000;
 
-// The judge on a position, over the solver's table.
-pub fn place_of(
-    file: &[u8],
-    table: &[u32],
-    position: &mut [u8],
-    state: usize,
-    stack: usize,
-) -> Place {
-    let n = put_position(position, state, stack);
-    let told = Told::of_verdict(judge(file, table, front(position, n)));
-    Place {
-        state,
-        stack,
-        kind: told.kind,
-        rule: number_of(told.first),
-        bound: told.bound(),
+impl Place {
+    pub fn bound(&self) -> Bound {
+        match self.judged {
+            Ok(Verdict::Target) => Bound::Within(0),
+            Ok(Verdict::Eloise { bound, .. } | Verdict::Abelard { bound }) => Bound::Within(bound),
+            Ok(Verdict::Lost { .. }) | Err(_) => Bound::Never,
+        }
     }
 }
 
-pub fn number_of(x: u64) -> usize {
-    x as usize
-}
-
-fn put_position(position: &mut [u8], state: usize, stack: usize) -> usize {
-    let mut at = put(position, 0, byte_of(state));
-    let mut rest = stack;
-    while 0 < rest {
-        at = put(position, at, byte_of(rest % BASE));
-        rest /= BASE;
+impl Trial<'_> {
+    // The judge on a position, over the solver's table.
+    pub fn judge(&self, at: Position) -> Place {
+        let mut position = File::<300>::new();
+        position.push(at.state);
+        for letter in Letters(at.stack) {
+            position.push(letter);
+        }
+        position.push(0);
+        Place {
+            at,
+            judged: judge(self.game.file.as_slice(), self.table, position.as_slice()),
+        }
     }
-    put(position, at, 0)
-}
 
-// A play from a position that is judged won.
-pub fn play(file: &[u8], g: Shape, table: &[u32], position: &mut [u8], from: Place) -> Played {
-    let mut place = from;
-    let mut moves = 0;
-    while moves < MOST_MOVES {
-        if place.kind == Told::TARGET {
-            return ended(moves, is_end(file, g, place, from.bound, moves));
+    // A play from a position that is judged won.
+    pub fn play(&self, from: Place) -> Played {
+        let mut place = from;
+        for moves in 0..MOST_MOVES {
+            if matches!(place.judged, Ok(Verdict::Target)) {
+                let within = Bound::Within(moves as u64) <= from.bound();
+                return ended(moves, within && self.game.is_target(place.at));
+            }
+            if TALL < place.at.stack {
+                return Played {
+                    moves,
+                    end: End::Long,
+                };
+            }
+            let next = self.after(place);
+            if place.bound() <= next.bound() {
+                return ended(moves + 1, false);
+            }
+            place = next;
         }
-        if TALL < place.stack {
-            return given_up(moves);
+        Played {
+            moves: MOST_MOVES,
+            end: End::Long,
         }
-        let next = place_after(file, g, table, position, place);
-        moves += 1;
-        if place.bound <= next.bound {
-            return ended(moves, false);
-        }
-        place = next;
     }
-    given_up(moves)
+
+    // The position after one move, by Éloise's advised rule or Abelard's worst for her; the same one where no rule of the head is advised.
+    fn after(&self, place: Place) -> Place {
+        let advised = match place.judged {
+            Ok(Verdict::Eloise { rule, .. }) => self.game.rules.get(rule as usize).copied(),
+            _ => self.spread_of(place.at).worst,
+        };
+        match advised {
+            Some(rule) if rule.is_of(place.at) => self.judge(rule.played(place.at)),
+            _ => place,
+        }
+    }
+
+    // What the rules of a head lead to.
+    pub fn spread_of(&self, at: Position) -> Spread {
+        let mut s = Spread {
+            least: Bound::Never,
+            largest: Bound::Within(0),
+            worst: None,
+            losing: None,
+        };
+        for (i, rule) in self.game.rules.iter().enumerate() {
+            if rule.is_of(at) {
+                s.add(i, *rule, self.judge(rule.played(at)).bound());
+            }
+        }
+        s
+    }
 }
 
 fn ended(moves: usize, right: bool) -> Played {
     Played {
         moves,
-        long: false,
-        failed: !right,
+        end: if right { End::Right } else { End::Wrong },
     }
 }
 
-fn given_up(moves: usize) -> Played {
-    Played {
-        moves,
-        long: true,
-        failed: false,
+impl Spread {
+    // Rules come in their order, so the first that leads to a lost position stays.
+    fn add(&mut self, i: usize, rule: Rule, bound: Bound) {
+        if bound < self.least {
+            self.least = bound;
+        }
+        if self.largest <= bound {
+            self.largest = bound;
+            self.worst = Some(rule);
+        }
+        if bound == Bound::Never && self.losing.is_none() {
+            self.losing = Some(i);
+        }
     }
-}
-
-// The position is in the target, and the moves are within the bound.
-fn is_end(file: &[u8], g: Shape, place: Place, bound: u64, moves: usize) -> bool {
-    if bound < moves as u64 {
-        return false;
-    }
-    is_target(file, g, place.state, place.stack)
-}
-
-// The position after one move; the same one where no rule of the head is advised.
-fn place_after(file: &[u8], g: Shape, table: &[u32], position: &mut [u8], place: Place) -> Place {
-    let rule = rule_from(file, g, table, position, place);
-    if !is_of_head(file, g, rule, place.state, place.stack) {
-        return place;
-    }
-    place_by(file, g, table, position, place, rule)
-}
-
-// Éloise's advised rule, or Abelard's worst for her.
-fn rule_from(file: &[u8], g: Shape, table: &[u32], position: &mut [u8], place: Place) -> usize {
-    if place.kind == Told::ELOISE {
-        return place.rule;
-    }
-    spread_of(file, g, table, position, place).worst
-}
-
-// The position that a rule leads to.
-fn place_by(
-    file: &[u8],
-    g: Shape,
-    table: &[u32],
-    position: &mut [u8],
-    place: Place,
-    rule: usize,
-) -> Place {
-    let state = state_after(file, g, rule);
-    let stack = stack_after(file, g, rule, place.stack);
-    place_of(file, table, position, state, stack)
-}
-
-// The bounds of the positions that the rules of a head lead to.
-pub fn spread_of(
-    file: &[u8],
-    g: Shape,
-    table: &[u32],
-    position: &mut [u8],
-    place: Place,
-) -> Spread {
-    let mut s = Spread {
-        least: Told::NONE,
-        largest: 0,
-        worst: 0,
-        losing: 0,
-    };
-    let mut i = 0;
-    while i < g.rulecount {
-        s = with_rule(file, g, table, position, place, i, s);
-        i += 1;
-    }
-    s
-}
-
-// The same with rule i, if it is one of the head.
-fn with_rule(
-    file: &[u8],
-    g: Shape,
-    table: &[u32],
-    position: &mut [u8],
-    place: Place,
-    i: usize,
-    s: Spread,
-) -> Spread {
-    if !is_of_head(file, g, i, place.state, place.stack) {
-        return s;
-    }
-    let next = place_by(file, g, table, position, place, i);
-    with_bound(s, i, next.bound)
-}
-
-fn with_bound(s: Spread, i: usize, bound: u64) -> Spread {
-    let least = if bound < s.least { bound } else { s.least };
-    let losing = losing_with(s.losing, i, bound);
-    if bound < s.largest {
-        return Spread {
-            least,
-            largest: s.largest,
-            worst: s.worst,
-            losing,
-        };
-    }
-    Spread {
-        least,
-        largest: bound,
-        worst: i,
-        losing,
-    }
-}
-
-// Rules come in their order, so the first that leads to a lost position stays.
-fn losing_with(losing: usize, i: usize, bound: u64) -> usize {
-    if bound != Told::NONE {
-        return losing;
-    }
-    if losing == 0 {
-        return up(i);
-    }
-    losing
 }

@@ -7,15 +7,15 @@
 //     that is reported is the lowest that leads to a position judged lost, and there is one;
 //   - where it is judged lost, it stays lost while Abelard plays the rules that are reported, and Éloise any;
 //   - where it is judged won, it is played to the target within the bound.
-use crate::cases::{WHOLE, words_of};
-use crate::contests::contest;
+use crate::cases::Areas;
 use crate::counts::Counts;
-use crate::games::{Shape, drawn, put_game};
-use crate::plain::{BASE, above, has, is_target, wins};
-use crate::plays::{Place, place_of, play, spread_of};
-use crate::told::Told;
-use script::{front, front_words, lent, up};
-use solver::solve;
+use crate::games::{Made, drawn};
+use crate::plain::{Letters, Position, above};
+use crate::plays::{Bound, End, Place, Trial};
+use crate::samples::words_of;
+use judge::Verdict;
+use script::{byte_of, front};
+use std::alloc::Global;
 use std::io;
 use std::io::Stdout;
 
@@ -31,235 +31,107 @@ const LOW: usize = 64;
 const DRAWN: usize = 4;
 
 // More than any of the games has control states.
-const STATES: usize = 3;
+const STATES: u8 = 3;
 
-pub fn every_game(
-    out: Stdout,
-    file: &mut [u8],
-    position: &mut [u8],
-    table: &mut [u32],
-    work: &mut [u32],
-) -> io::Result<()> {
-    let mut c = Counts::none(out);
-    let mut number = 0;
-    while number < GAMES {
-        let g = put_game(file, number);
-        c = one_game(c, number, front(file, g.size), g, position, table, work);
-        number += 1;
-    }
-    c.print()
-}
-
-fn one_game(
-    c: Counts,
-    number: usize,
-    file: &[u8],
-    g: Shape,
-    position: &mut [u8],
-    table: &mut [u32],
-    work: &mut [u32],
-) -> Counts {
-    let told = solved(file, table, work);
-    if told.kind == Told::REFUSED {
-        return c.refused(number, told.first);
-    }
-    // With an unused entry after those that are used.
-    let words = words_of(up(told.first as usize));
-    every_position(
-        c.solved(told.second),
-        number,
-        file,
-        g,
-        position,
-        front_words(table, words),
-    )
-}
-
-fn solved(file: &[u8], table: &mut [u32], work: &mut [u32]) -> Told {
-    Told::of_solution(solve(file, lent(table, WHOLE), lent(work, WHOLE)))
-}
-
-fn every_position(
-    c: Counts,
-    number: usize,
-    file: &[u8],
-    g: Shape,
-    position: &mut [u8],
-    table: &[u32],
-) -> Counts {
-    let mut c = c;
-    let mut i = 0;
-    while i < STATES * (LOW + DRAWN) {
-        let state = i % STATES;
-        let stack = stack_of(number, g.letters, i / STATES);
-        c = one_position(c, number, file, g, position, table, state, stack);
-        i += 1;
-    }
-    c
-}
-
-// The stack of a number, or one that is drawn.
-fn stack_of(number: usize, letters: usize, i: usize) -> usize {
-    if i < LOW {
-        return i;
-    }
-    if letters < 2 {
-        return 0;
-    }
-    let choice = 512 + i % 64 * 8;
-    let last = drawn(number, choice + 7, 4) + 2;
-    let mut stack = 0;
-    let mut j = 0;
-    while j <= last {
-        stack = above(stack, drawn(number, choice + j % 7, letters - 1) + 1);
-        j += 1;
-    }
-    stack
-}
-
-// The control state is one of the game's, and so is every letter above the bottom.
-fn is_position(g: Shape, state: usize, stack: usize) -> bool {
-    if g.control <= state {
-        return false;
-    }
-    let mut rest = stack;
-    while 0 < rest {
-        if rest % BASE == 0 {
-            return false;
+pub fn every_game(out: Stdout, alloc: Global, areas: &mut Areas) -> io::Result<Counts> {
+    let mut c = Counts::default();
+    for number in 0..GAMES {
+        let game = Made::new(alloc, number)?;
+        match areas.solve(game.file.as_slice()) {
+            Ok(solved) => {
+                c.solved(solved.rounds);
+                // With an unused entry after those that are used.
+                let words = words_of(solved.entries.saturating_add(1));
+                let trial = Trial {
+                    game: &game,
+                    table: front(&areas.table, words),
+                };
+                trial.every_position(out, &mut c);
+            }
+            Err(refusal) => c.refused(out, number, refusal),
         }
-        if g.letters <= rest % BASE {
-            return false;
+    }
+    Ok(c)
+}
+
+impl Trial<'_> {
+    fn every_position(&self, out: Stdout, c: &mut Counts) {
+        for i in 0..LOW + DRAWN {
+            let stack = self.game.stack(i);
+            for state in 0..STATES {
+                let at = Position { state, stack };
+                if self.game.is_position(at) {
+                    self.one_position(out, c, at);
+                }
+            }
         }
-        rest /= BASE;
     }
-    true
+
+    fn one_position(&self, out: Stdout, c: &mut Counts, at: Position) {
+        let number = self.game.sizes.number;
+        let place = self.judge(at);
+        let plain = self.game.wins(at, DEPTH);
+        c.judged(place, plain);
+        c.check(out, self.does_agree(place, plain), number, at);
+        if let Ok(Verdict::Lost { rule }) = place.judged {
+            c.reported(self.game.is_abelards(at.state));
+            c.check(out, self.is_kept(at, rule), number, at);
+            let went = self.contest(at, rule);
+            c.contested(went);
+            c.check(out, !went.failed, number, at);
+        } else {
+            let played = self.play(place);
+            c.played(played);
+            c.check(out, played.end != End::Wrong, number, at);
+        }
+    }
+
+    // The verdict agrees with what the plain solver found.
+    fn does_agree(&self, place: Place, plain: bool) -> bool {
+        if let Ok(Verdict::Lost { .. }) = place.judged {
+            return !plain;
+        }
+        if self.game.is_target(place.at) {
+            return matches!(place.judged, Ok(Verdict::Target));
+        }
+        let abelards = self.game.is_abelards(place.at.state);
+        let is_owners = match place.judged {
+            Ok(Verdict::Abelard { .. }) => abelards,
+            Ok(Verdict::Eloise { .. }) => !abelards,
+            _ => false,
+        };
+        is_owners && (plain || Bound::Within(DEPTH as u64) < place.bound())
+    }
+
+    // Abelard can keep a position lost: the lowest rule of his head that leads to one judged lost is reported, or every rule of Éloise's
+    // leads to one, and none is reported.
+    fn is_kept(&self, at: Position, reported: Option<u32>) -> bool {
+        let s = self.spread_of(at);
+        match reported {
+            Some(rule) => self.game.is_abelards(at.state) && s.losing == Some(rule as usize),
+            None => !self.game.is_abelards(at.state) && s.least == Bound::Never,
+        }
+    }
 }
 
-// A control state and a stack, if they are a position of the game.
-fn one_position(
-    c: Counts,
-    number: usize,
-    file: &[u8],
-    g: Shape,
-    position: &mut [u8],
-    table: &[u32],
-    state: usize,
-    stack: usize,
-) -> Counts {
-    if !is_position(g, state, stack) {
-        return c;
+impl Made {
+    // The stack of a number, or one that is drawn.
+    fn stack(&self, i: usize) -> usize {
+        if i < LOW {
+            return i;
+        }
+        let number = self.sizes.number;
+        let letters = usize::from(self.sizes.letters).saturating_sub(1);
+        let choice = 512 + i % 64 * 8;
+        let mut stack = 0;
+        for j in 0..drawn(number, choice + 7, 4) + 3 {
+            stack = above(stack, byte_of(drawn(number, choice + j % 7, letters) + 1));
+        }
+        stack
     }
-    let place = place_of(file, table, position, state, stack);
-    let plain = wins(file, g, state, stack, DEPTH);
-    let c = c
-        .judged(place.kind, place.bound)
-        .check(does_agree(file, g, place, plain), number, state, stack);
-    let c = c.searched(place.kind, plain);
-    tried(c, number, file, g, position, table, place)
-}
 
-// What follows from the verdict, tried by moves.
-fn tried(
-    c: Counts,
-    number: usize,
-    file: &[u8],
-    g: Shape,
-    position: &mut [u8],
-    table: &[u32],
-    place: Place,
-) -> Counts {
-    if place.kind == Told::LOST {
-        return lost_tried(c, number, file, g, position, table, place);
+    // The control state is one of the game's, and so is every letter above the bottom.
+    fn is_position(&self, p: Position) -> bool {
+        p.state < self.sizes.control && Letters(p.stack).all(|l| l != 0 && l < self.sizes.letters)
     }
-    let played = play(file, g, table, position, place);
-    c.played(played)
-        .check(!played.failed, number, place.state, place.stack)
-}
-
-// The rule that is reported of a lost position, and a contest from it.
-fn lost_tried(
-    c: Counts,
-    number: usize,
-    file: &[u8],
-    g: Shape,
-    position: &mut [u8],
-    table: &[u32],
-    place: Place,
-) -> Counts {
-    let c = rule_tried(c, number, file, g, position, table, place);
-    contest_tried(c, number, file, g, position, table, place)
-}
-
-fn rule_tried(
-    c: Counts,
-    number: usize,
-    file: &[u8],
-    g: Shape,
-    position: &mut [u8],
-    table: &[u32],
-    place: Place,
-) -> Counts {
-    let kept = is_kept(file, g, table, position, place);
-    c.reported(has(g.abelard, place.state))
-        .check(kept, number, place.state, place.stack)
-}
-
-fn contest_tried(
-    c: Counts,
-    number: usize,
-    file: &[u8],
-    g: Shape,
-    position: &mut [u8],
-    table: &[u32],
-    place: Place,
-) -> Counts {
-    let went = contest(number, file, g, table, position, place);
-    c.contested(went)
-        .check(!went.failed, number, place.state, place.stack)
-}
-
-// The verdict agrees with what the plain solver found.
-fn does_agree(file: &[u8], g: Shape, place: Place, plain: bool) -> bool {
-    if place.kind == Told::LOST {
-        return !plain;
-    }
-    if is_target(file, g, place.state, place.stack) {
-        return place.kind == Told::TARGET;
-    }
-    if place.kind != owner_kind(g, place.state) {
-        return false;
-    }
-    if (DEPTH as u64) < place.bound {
-        return true;
-    }
-    plain
-}
-
-// The kind of a verdict on a position won outside the target.
-fn owner_kind(g: Shape, state: usize) -> usize {
-    if has(g.abelard, state) {
-        return Told::ABELARD;
-    }
-    Told::ELOISE
-}
-
-// Abelard can keep a position lost: the lowest rule of his head that leads to one judged lost is reported, or every rule of Éloise's
-// leads to one, and none is reported.
-fn is_kept(file: &[u8], g: Shape, table: &[u32], position: &mut [u8], place: Place) -> bool {
-    let s = spread_of(file, g, table, position, place);
-    if has(g.abelard, place.state) {
-        return is_named(s.losing, place.rule);
-    }
-    if place.rule != 0 {
-        return false;
-    }
-    s.least == Told::NONE
-}
-
-// There is a losing rule, and it is the one reported.
-fn is_named(losing: usize, field: usize) -> bool {
-    if losing == 0 {
-        return false;
-    }
-    losing == field
 }
