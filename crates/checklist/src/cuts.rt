@@ -4,16 +4,18 @@
 // the place are worked out here by a walk of their own, from documents 01 and 02.
 //
 // It leaves out files damaged in another way.
-use crate::refusals::Refusal;
-use crate::samples::{FILES, file_sample, name_after, put_sample};
-use crate::tally::Tally;
-use game::Game;
+ghost use Rattle.std.specs.Prelude.{length};
+ghost use Rattle.std.specs.Iterator.{at_most};
+
+use crate::areas::Areas;
+use crate::ending::end;
+use crate::samples::{FILES, Sample};
+use game::{Game, Question, Refusal};
 use judge::judge;
-use output::Line;
-use script::{byte_at, fill, front, is_zero, put, up};
-use session::play_move;
-use solver::solve;
-use std::io::Stdout;
+use output::Tally;
+use script::front;
+use session::{Session, play_move};
+use std::fmt;
 
 // What the areas hold before each call.
 const BEFORE: u32 = 4294967295;
@@ -21,243 +23,155 @@ const BEFORE: u32 = 4294967295;
 // A byte that is no command.
 const UNKNOWN: u8 = 254;
 
-pub fn every_file(out: Stdout, file: &mut [u8], table: &mut [u32], work: &mut [u32]) -> Tally {
-    let mut t = Tally::none(out);
-    let mut i = 0;
-    while i < FILES {
-        let size = put_sample(file, file_sample(i));
-        t = t.with(one_file(out, i, file, size, table, work));
-        i += 1;
+// The whole commands that a file begins with, each with its operands.
+#[derive(Clone, Copy)]
+struct Commands<'a>(&'a [u8]);
+
+impl<'a> Iterator for Commands<'a> {
+    type Item = &'a [u8];
+
+    ghost remaining = { λ s. at_most (length s.0.now) };
+
+    fn next(&mut self) -> Option<&'a [u8]> {
+        let (code, rest) = self.0.split_first()?;
+        let (operands, rest) = rest.split_at_checked(operands_of(*code)?)?;
+        self.0 = rest;
+        Some(operands)
     }
-    t
 }
 
-// Both lines of one file.
-fn one_file(
-    out: Stdout,
-    i: usize,
-    file: &mut [u8],
-    size: usize,
-    table: &mut [u32],
-    work: &mut [u32],
-) -> Tally {
-    let t = cut_file(out, i, front(file, size), table, work);
-    t.with(unknown_file(out, i, file, size, table, work))
-}
-
-fn cut_file(out: Stdout, i: usize, file: &[u8], table: &mut [u32], work: &mut [u32]) -> Tally {
-    let t = every_cut(out, file, table, work);
-    with_whole(t, i, file)
-}
-
-// The line of one file. The whole of it is read, so that no cut is refused for what stands before it.
-fn with_whole(t: Tally, i: usize, file: &[u8]) -> Tally {
-    let line = name_after(file_sample(i), Line::new().word(b"cut file, "))
-        .word(b": ")
-        .number(file.len() as u64)
-        .word(b" cuts, ")
-        .number(within(file) as u64)
-        .word(b" in a command (19), refused as asked by reader, solver, judge and move");
-    t.held(is_read(file)).end(line)
-}
-
-// How many cuts of a file end within a command: those that 19 is expected of.
-fn within(file: &[u8]) -> usize {
-    let mut count = 0;
-    let mut n = 0;
-    while n < file.len() {
-        if expected(file, n).question == 19 {
-            count = up(count);
-        }
-        n += 1;
-    }
-    count
-}
-
-// Each command of a file in turn with an unknown byte in the place of its own.
-fn unknown_file(
-    out: Stdout,
-    i: usize,
-    file: &mut [u8],
-    size: usize,
-    table: &mut [u32],
-    work: &mut [u32],
-) -> Tally {
-    with_unknown(every_command(out, file, size, table, work), i)
-}
-
-// The line for it.
-fn with_unknown(t: Tally, i: usize) -> Tally {
-    let line = name_after(file_sample(i), Line::new().word(b"unknown command, "))
-        .word(b": ")
-        .number(t.tried as u64)
-        .word(b" tries (2), refused as asked by reader, solver, judge and move");
-    t.end(line)
-}
-
-fn every_command(
-    out: Stdout,
-    file: &mut [u8],
-    size: usize,
-    table: &mut [u32],
-    work: &mut [u32],
-) -> Tally {
-    let mut t = Tally::none(out);
-    let mut at = 0;
-    while at < size {
-        let bytes = command_size(byte_at(file, at));
-        if bytes == 0 {
-            return t.held(false);
-        }
-        if size - at < bytes {
-            return t.held(false);
-        }
-        t = t.with(one_command(out, file, at, size, table, work));
-        at += bytes;
-    }
-    t
-}
-
-// One command unknown. The file is as it was afterwards.
-fn one_command(
-    out: Stdout,
-    file: &mut [u8],
-    at: usize,
-    size: usize,
-    table: &mut [u32],
-    work: &mut [u32],
-) -> Tally {
-    let code = byte_at(file, at);
-    put(file, at, UNKNOWN);
-    let t = unknown_at(out, file, at, size, table, work);
-    put(file, at, code);
-    t
-}
-
-// The whole file, and the file up to the unknown byte.
-fn unknown_at(
-    out: Stdout,
-    file: &[u8],
-    at: usize,
-    size: usize,
-    table: &mut [u32],
-    work: &mut [u32],
-) -> Tally {
-    let t = refused_alike(out, Refusal::new(2, at), front(file, size), table, work);
-    t.with(refused_alike(out, Refusal::new(2, at), front(file, up(at)), table, work))
-}
-
-fn is_read(file: &[u8]) -> bool {
-    reader_on(file).is_same(Refusal::new(0, 0))
-}
-
-fn every_cut(out: Stdout, file: &[u8], table: &mut [u32], work: &mut [u32]) -> Tally {
-    let mut t = Tally::none(out);
-    let mut n = 0;
-    while n < file.len() {
-        t = t.with(refused_alike(out, expected(file, n), front(file, n), table, work));
-        n += 1;
-    }
-    t
-}
-
-// What the first n bytes of a file are refused with. No cut of a file that is read as a whole holds FF, which is its last
-// byte, and questions 2 to 7 are answered yes for each whole command. So only a missing operand is met, or the end.
-fn expected(file: &[u8], n: usize) -> Refusal {
-    if n == 0 {
-        return Refusal::new(1, 0);
-    }
-    let mut at = 0;
-    while at < n {
-        let size = command_size(byte_at(file, at));
-        if size == 0 {
-            return Refusal::new(2, at);
-        }
-        if n - at < size {
-            return Refusal::new(19, at);
-        }
-        at += size;
-    }
-    Refusal::new(8, n)
-}
-
-// The bytes of a command with its operands; 0 for an unknown one.
-fn command_size(code: u8) -> usize {
+// How many operands a command has; none for an unknown one.
+fn operands_of(code: u8) -> Option<usize> {
     match code {
-        1 => 4,
-        2 | 3 => 2,
-        4 | 5 => 7,
-        255 => 1,
-        _ => 0,
+        1 => Some(3),
+        2 | 3 => Some(1),
+        4 | 5 => Some(6),
+        255 => Some(0),
+        _ => None,
     }
 }
 
-// A file that is refused, by all with the same question and place: five tries.
-fn refused_alike(
-    out: Stdout,
-    expected: Refusal,
-    file: &[u8],
-    table: &mut [u32],
-    work: &mut [u32],
-) -> Tally {
-    let t = same(Tally::none(out), b"reader", file, expected, reader_on(file));
-    let t = same(t, b"move", file, expected, move_on(file));
-    over_areas(t, expected, file, table, work)
+// A refusal, or none, as the line of a try that fails has it.
+#[derive(Clone, Copy)]
+struct Asked(Option<Refusal>);
+
+impl fmt::Display for Asked {
+    fn fmt<W: fmt::Write>(&self, f: &mut fmt::Formatter<W>) -> fmt::Result {
+        match self.0 {
+            None => write!(f, "question 0 at 0"),
+            Some(Refusal { question, place }) => {
+                write!(f, "question {} at {place}", question.number())
+            }
+        }
+    }
 }
 
-// Solver and judge. A refused solve leaves no word in either area.
-fn over_areas(
-    t: Tally,
-    expected: Refusal,
-    file: &[u8],
-    table: &mut [u32],
-    work: &mut [u32],
-) -> Tally {
-    let t = same(t, b"solver", file, expected, solver_on(file, table, work));
-    let t = t.held(are_zero(table, work));
-    same(t, b"judge", file, expected, judge_on(file, table))
+pub fn every_file(t: &mut Tally, areas: &mut Areas) {
+    for sample in FILES {
+        every_cut(t, sample, areas);
+        every_command(t, sample, areas);
+    }
+}
+
+// The cuts of one file. The whole of it is read, so that no cut is refused for what stands before it.
+fn every_cut(t: &mut Tally, sample: Sample, areas: &mut Areas) {
+    let file = sample.file();
+    let file = file.as_slice();
+    let mut tries = Tally::new(t.out);
+    let mut within = 0usize;
+    for n in 0..file.len() {
+        let cut = front(file, n);
+        let refusal = expected(cut);
+        within = within.saturating_add(usize::from(refusal.question == Question::Operands));
+        refused_alike(&mut tries, refusal, cut, areas);
+    }
+    tries.count(Game::read(file).is_ok());
+    let cuts = file.len();
+    end(
+        t,
+        tries,
+        format_args!(
+            "cut file, {sample}: {cuts} cuts, {within} in a command (19), refused as asked by reader, solver, judge and move"
+        ),
+    );
+}
+
+// Each command of a file in turn with an unknown byte in the place of its own: the whole file, and the file up to that byte.
+fn every_command(t: &mut Tally, sample: Sample, areas: &mut Areas) {
+    let file = sample.file();
+    let mut tries = Tally::new(t.out);
+    let mut at = 0usize;
+    for operands in Commands(file.as_slice()) {
+        let mut unknown = file;
+        unknown.put(at, UNKNOWN);
+        let refusal = Question::Known.at(at);
+        refused_alike(&mut tries, refusal, unknown.as_slice(), areas);
+        at = at.saturating_add(1);
+        refused_alike(&mut tries, refusal, unknown.front(at), areas);
+        at = at.saturating_add(operands.len());
+    }
+    if at != file.len() {
+        tries.count(false);
+    }
+    let tried = tries.tried;
+    end(
+        t,
+        tries,
+        format_args!(
+            "unknown command, {sample}: {tried} tries (2), refused as asked by reader, solver, judge and move"
+        ),
+    );
+}
+
+// What a cut of a file is refused with. No cut of a file that is read as a whole holds FF, which is its last byte, and questions 2 to 7
+// are answered yes for each whole command. So only a missing operand is met, or the end.
+fn expected(cut: &[u8]) -> Refusal {
+    if cut.is_empty() {
+        return Question::Length.at(0);
+    }
+    let mut at = 0usize;
+    for operands in Commands(cut) {
+        at = at.saturating_add(1).saturating_add(operands.len());
+    }
+    match cut.get(at) {
+        None => Question::Last.at(at),
+        Some(code) if operands_of(*code).is_some() => Question::Operands.at(at),
+        Some(_) => Question::Known.at(at),
+    }
+}
+
+// A file that is refused, by all with the same question and place: five tries. A refused solve leaves no word in either area.
+fn refused_alike(t: &mut Tally, expected: Refusal, file: &[u8], areas: &mut Areas) {
+    let start = Session {
+        state: 0,
+        stack: [0; Game::MAX_STACK],
+        height: 1,
+    };
+    same(t, "reader", file, expected, Game::read(file).err());
+    same(
+        t,
+        "move",
+        file,
+        expected,
+        play_move(file, start, 0).answer.err(),
+    );
+    let solved = areas.solve_over(file, BEFORE, BEFORE);
+    same(t, "solver", file, expected, solved.err());
+    t.count(areas.is_table_zero() && areas.is_work_zero());
+    let judged = judge(file, &areas.table, b"\x00\x00");
+    same(t, "judge", file, expected, judged.err());
 }
 
 // One try: an answer is the expected refusal.
-fn same(t: Tally, who: &[u8], file: &[u8], expected: Refusal, got: Refusal) -> Tally {
-    if expected.is_same(got) {
-        return t.held(true);
-    }
-    let line = Line::new()
-        .word(who)
-        .word(b" on the first ")
-        .number(file.len() as u64)
-        .word(b" bytes: expected ");
-    let line = got.after(expected.after(line).word(b", got "));
-    let _ = line.print(&t.out);
-    t.held(false)
-}
-
-fn reader_on(file: &[u8]) -> Refusal {
-    let reading = Game::read(file);
-    let answer = reading.answer;
-    Refusal::of_answer(answer)
-}
-
-fn solver_on(file: &[u8], table: &mut [u32], work: &mut [u32]) -> Refusal {
-    fill(table, BEFORE);
-    fill(work, BEFORE);
-    Refusal::of_solution(solve(file, table, work))
-}
-
-fn are_zero(table: &[u32], work: &[u32]) -> bool {
-    if is_zero(table) {
-        return is_zero(work);
-    }
-    false
-}
-
-fn judge_on(file: &[u8], table: &[u32]) -> Refusal {
-    Refusal::of_verdict(judge(file, table, b"\x00\x00"))
-}
-
-fn move_on(file: &[u8]) -> Refusal {
-    let played = play_move(file, 0, [0; Game::MAX_STACK], 1, 0);
-    let answer = played.answer;
-    Refusal::of_answer(answer)
+fn same(t: &mut Tally, who: &str, file: &[u8], expected: Refusal, got: Option<Refusal>) {
+    let length = file.len();
+    let expected = Some(expected);
+    t.check(
+        got == expected,
+        format_args!(
+            "{who} on the first {length} bytes: expected {}, got {}",
+            Asked(expected),
+            Asked(got)
+        ),
+    );
 }

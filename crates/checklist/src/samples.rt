@@ -2,10 +2,10 @@
 //
 // In each of them the target is the position (0,[0]) alone, and control state 1 is Abelard's where there is one. It leaves out
 // random games.
-use output::Line;
-use script::{put_bytes, put_d};
+use script::{File, SAMPLE_A, SAMPLE_B, SAMPLE_C};
+use std::fmt;
 
-#[derive(Clone, Copy)]
+#[derive(Clone, Copy, Debug, PartialEq, Eq)]
 pub enum Sample {
     A,
     B,
@@ -21,113 +21,67 @@ pub enum Sample {
     F,
 }
 
-// How many games are cut and solved twice.
-pub const FILES: usize = 5;
+// The games that are cut and solved twice. 40 letters are the most that settle.
+pub const FILES: [Sample; 5] = [
+    Sample::A,
+    Sample::B,
+    Sample::C,
+    Sample::D(40),
+    Sample::D(41),
+];
 
-// These games, by number: 40 letters are the most that settle.
-pub fn file_sample(i: usize) -> Sample {
-    match i {
-        0 => Sample::A,
-        1 => Sample::B,
-        2 => Sample::C,
-        3 => Sample::D(40),
-        _ => Sample::D(41),
+impl Sample {
+    pub fn file(self) -> File<400> {
+        let mut file = File::new();
+        match self {
+            Sample::A => file.extend(SAMPLE_A),
+            Sample::B => file.extend(SAMPLE_B),
+            Sample::C => file.extend(SAMPLE_C),
+            Sample::D(n) => file.sample_d(n),
+            Sample::E1 => file.extend(E1),
+            Sample::E2 => file.extend(E2),
+            Sample::E3 => file.extend(E3),
+            Sample::E4 => file.extend(E4),
+            Sample::F => file.extend(F),
+        }
+        file
     }
 }
 
-// Makes the file of a sample in a buffer, and answers its length.
-pub fn put_sample(file: &mut [u8], sample: Sample) -> usize {
-    match sample {
-        Sample::A => put_a(file),
-        Sample::B => put_b(file),
-        Sample::C => put_c(file),
-        Sample::D(n) => put_d(file, n),
-        Sample::E1 => put_e1(file),
-        Sample::E2 => put_e2(file),
-        Sample::E3 => put_e3(file),
-        Sample::E4 => put_e4(file),
-        Sample::F => put_f(file),
+impl fmt::Display for Sample {
+    fn fmt<W: fmt::Write>(&self, f: &mut fmt::Formatter<W>) -> fmt::Result {
+        match self {
+            Sample::A => write!(f, "game A"),
+            Sample::B => write!(f, "game B"),
+            Sample::C => write!(f, "game C"),
+            Sample::D(n) => write!(f, "game D{n}"),
+            Sample::E1 => write!(f, "game E1"),
+            Sample::E2 => write!(f, "game E2"),
+            Sample::E3 => write!(f, "game E3"),
+            Sample::E4 => write!(f, "game E4"),
+            Sample::F => write!(f, "game F"),
+        }
     }
-}
-
-// P 2, S 3, L 2. Rules 0: (0,0) to (0,[0]); 1: (0,1) to (1,[1]); 2: (0,1) to (0,[]); 3: (1,0) to (0,[0]); 4: (1,1) to (0,[]);
-// 5: (1,1) to (0,[1]).
-fn put_a(file: &mut [u8]) -> usize {
-    put_bytes(
-        file,
-        b"\x01\x02\x03\x02\x02\x01\x03\x02\x04\x00\x00\x00\x01\x00\x00\x04\x00\x01\x01\x01\x01\x00\x04\x00\x01\x00\x00\x00\x00\x04\x01\x00\x00\x01\x00\x00\x04\x01\x01\x00\x00\x00\x00\x04\x01\x01\x00\x01\x01\x00\x05\x00\x00\x04\x00\x00\x00\xff",
-    )
-}
-
-// As A, but rule 5 is (1,1) to (1,[1]).
-fn put_b(file: &mut [u8]) -> usize {
-    put_bytes(
-        file,
-        b"\x01\x02\x03\x02\x02\x01\x03\x02\x04\x00\x00\x00\x01\x00\x00\x04\x00\x01\x01\x01\x01\x00\x04\x00\x01\x00\x00\x00\x00\x04\x01\x00\x00\x01\x00\x00\x04\x01\x01\x00\x00\x00\x00\x04\x01\x01\x01\x01\x01\x00\x05\x00\x00\x04\x00\x00\x00\xff",
-    )
-}
-
-// P 1, S 2, L 3. Rules 0: (0,0) to (0,[0]); 1: (0,1) to (0,[2,2]); 2: (0,2) to (0,[]).
-fn put_c(file: &mut [u8]) -> usize {
-    put_bytes(
-        file,
-        b"\x01\x01\x02\x03\x03\x01\x04\x00\x00\x00\x01\x00\x00\x04\x00\x01\x00\x02\x02\x02\x04\x00\x02\x00\x00\x00\x00\x05\x00\x00\x02\x00\x00\x00\xff",
-    )
 }
 
 // P 2, S 3, L 2. Rules 0: (0,0) to (0,[0]); 1: (0,1) to (0,[]); 2: (1,0) to (1,[0]), with which Abelard stays where he is;
 // 3: (1,1) to (1,[]), which loses; 4: (1,1) to (0,[]); 5: (1,1) to (0,[1]).
-fn put_e1(file: &mut [u8]) -> usize {
-    put_bytes(
-        file,
-        b"\x01\x02\x03\x02\x02\x01\x03\x02\x04\x00\x00\x00\x01\x00\x00\x04\x00\x01\x00\x00\x00\x00\x04\x01\x00\x01\x01\x00\x00\x04\x01\x01\x01\x00\x00\x00\x04\x01\x01\x00\x00\x00\x00\x04\x01\x01\x00\x01\x01\x00\x05\x00\x00\x04\x00\x00\x00\xff",
-    )
-}
+const E1: &[u8; 58] =
+    b"\x01\x02\x03\x02\x02\x01\x03\x02\x04\x00\x00\x00\x01\x00\x00\x04\x00\x01\x00\x00\x00\x00\x04\x01\x00\x01\x01\x00\x00\x04\x01\x01\x01\x00\x00\x00\x04\x01\x01\x00\x00\x00\x00\x04\x01\x01\x00\x01\x01\x00\x05\x00\x00\x04\x00\x00\x00\xff";
 
 // The same rules, the losing one being rule 4.
-fn put_e2(file: &mut [u8]) -> usize {
-    put_bytes(
-        file,
-        b"\x01\x02\x03\x02\x02\x01\x03\x02\x04\x00\x00\x00\x01\x00\x00\x04\x00\x01\x00\x00\x00\x00\x04\x01\x00\x01\x01\x00\x00\x04\x01\x01\x00\x00\x00\x00\x04\x01\x01\x01\x00\x00\x00\x04\x01\x01\x00\x01\x01\x00\x05\x00\x00\x04\x00\x00\x00\xff",
-    )
-}
+const E2: &[u8; 58] =
+    b"\x01\x02\x03\x02\x02\x01\x03\x02\x04\x00\x00\x00\x01\x00\x00\x04\x00\x01\x00\x00\x00\x00\x04\x01\x00\x01\x01\x00\x00\x04\x01\x01\x00\x00\x00\x00\x04\x01\x01\x01\x00\x00\x00\x04\x01\x01\x00\x01\x01\x00\x05\x00\x00\x04\x00\x00\x00\xff";
 
 // The same rules, the losing one being rule 5.
-fn put_e3(file: &mut [u8]) -> usize {
-    put_bytes(
-        file,
-        b"\x01\x02\x03\x02\x02\x01\x03\x02\x04\x00\x00\x00\x01\x00\x00\x04\x00\x01\x00\x00\x00\x00\x04\x01\x00\x01\x01\x00\x00\x04\x01\x01\x00\x00\x00\x00\x04\x01\x01\x00\x01\x01\x00\x04\x01\x01\x01\x00\x00\x00\x05\x00\x00\x04\x00\x00\x00\xff",
-    )
-}
+const E3: &[u8; 58] =
+    b"\x01\x02\x03\x02\x02\x01\x03\x02\x04\x00\x00\x00\x01\x00\x00\x04\x00\x01\x00\x00\x00\x00\x04\x01\x00\x01\x01\x00\x00\x04\x01\x01\x00\x00\x00\x00\x04\x01\x01\x00\x01\x01\x00\x04\x01\x01\x01\x00\x00\x00\x05\x00\x00\x04\x00\x00\x00\xff";
 
 // The same rules, but for the losing one (1,1) to (0,[1,1]), as rule 5.
-fn put_e4(file: &mut [u8]) -> usize {
-    put_bytes(
-        file,
-        b"\x01\x02\x03\x02\x02\x01\x03\x02\x04\x00\x00\x00\x01\x00\x00\x04\x00\x01\x00\x00\x00\x00\x04\x01\x00\x01\x01\x00\x00\x04\x01\x01\x00\x00\x00\x00\x04\x01\x01\x00\x01\x01\x00\x04\x01\x01\x00\x02\x01\x01\x05\x00\x00\x04\x00\x00\x00\xff",
-    )
-}
+const E4: &[u8; 58] =
+    b"\x01\x02\x03\x02\x02\x01\x03\x02\x04\x00\x00\x00\x01\x00\x00\x04\x00\x01\x00\x00\x00\x00\x04\x01\x00\x01\x01\x00\x00\x04\x01\x01\x00\x00\x00\x00\x04\x01\x01\x00\x01\x01\x00\x04\x01\x01\x00\x02\x01\x01\x05\x00\x00\x04\x00\x00\x00\xff";
 
 // P 2, S 3, L 3. Rules 0: (0,0) to (0,[0]); 1: (0,1) to (1,[2]); 2: (0,2) to (1,[]); 3: (1,0) to (0,[0]); 4: (1,1) to (0,[]);
 // 5: (1,1) to (0,[2,2]); 6: (1,2) to (0,[]); 7: (1,2) to (1,[]).
-fn put_f(file: &mut [u8]) -> usize {
-    put_bytes(
-        file,
-        b"\x01\x02\x03\x03\x02\x01\x03\x02\x04\x00\x00\x00\x01\x00\x00\x04\x00\x01\x01\x01\x02\x00\x04\x00\x02\x01\x00\x00\x00\x04\x01\x00\x00\x01\x00\x00\x04\x01\x01\x00\x00\x00\x00\x04\x01\x01\x00\x02\x02\x02\x04\x01\x02\x00\x00\x00\x00\x04\x01\x02\x01\x00\x00\x00\x05\x00\x00\x04\x00\x00\x00\xff",
-    )
-}
-
-// A line with the game's name after it.
-pub fn name_after(sample: Sample, line: Line) -> Line {
-    match sample {
-        Sample::A => line.word(b"game A"),
-        Sample::B => line.word(b"game B"),
-        Sample::C => line.word(b"game C"),
-        Sample::D(n) => line.word(b"game D").number(n as u64),
-        Sample::E1 => line.word(b"game E1"),
-        Sample::E2 => line.word(b"game E2"),
-        Sample::E3 => line.word(b"game E3"),
-        Sample::E4 => line.word(b"game E4"),
-        Sample::F => line.word(b"game F"),
-    }
-}
+const F: &[u8; 72] =
+    b"\x01\x02\x03\x03\x02\x01\x03\x02\x04\x00\x00\x00\x01\x00\x00\x04\x00\x01\x01\x01\x02\x00\x04\x00\x02\x01\x00\x00\x00\x04\x01\x00\x00\x01\x00\x00\x04\x01\x01\x00\x00\x00\x00\x04\x01\x01\x00\x02\x02\x02\x04\x01\x02\x00\x00\x00\x00\x04\x01\x02\x01\x00\x00\x00\x05\x00\x00\x04\x00\x00\x00\xff";
