@@ -7,127 +7,70 @@
 // ends the run with its error. It leaves out playing.
 #![tactic(auto)]
 
-use game::Game;
+use game::{Game, Refusal};
 use judge::{Verdict, judge};
-use output::{Line, front, read_full, refusal};
-use solver::{Solution, solve};
-use std::io;
+use output::read_full;
+use solver::solve;
 use std::io::Read;
+use std::{fmt, io};
 use table::EntryWords;
-
-// What reading a piece answers: how many bytes of it came, or that the input ended before it.
-#[derive(Clone, Copy)]
-enum Piece {
-    Bytes(usize),
-    Ended,
-}
 
 // The most bytes that two length bytes can announce. Pieces are read whole, also those beyond the limits of files and
 // positions, so that the next one begins where its length bytes stand.
 const LONGEST: usize = 65535;
 
-// More positions than any input has.
-const MOST: u64 = 18446744073709551615;
-
 fn main(rt: HostRuntime) -> io::Result<()> {
-    let mut file = [0u8; LONGEST];
-    let mut position = [0u8; LONGEST];
+    let mut buffer = [0u8; LONGEST];
     let mut table = [0u32; EntryWords::STRIDE * Game::MAX_ENTRIES];
     let mut work = [0u32; EntryWords::STRIDE * Game::MAX_ENTRIES];
     let mut input = rt.stdin();
-    run(
-        &mut input,
-        &rt,
-        &mut file,
-        &mut position,
-        &mut table,
-        &mut work,
-    )
-}
-
-// The game, and then its positions. The pieces are read into the first two buffers.
-fn run(
-    input: &mut impl Read,
-    out: &impl Print,
-    file: &mut [u8],
-    position: &mut [u8],
-    table: &mut [u32],
-    work: &mut [u32],
-) -> io::Result<()> {
-    let piece = read_piece(input, file)?;
-    let Piece::Bytes(n) = piece else {
+    let Some(file) = read_piece(&mut input, &mut buffer)? else {
         return Ok(());
     };
-    let solution = solve(front(file, n), table, work);
-    match solution {
-        Solution::Solved { entries, rounds } => {
-            judge_all(input, out, front(file, n), position, table)
-        }
-        Solution::Refused { question, place } => refusal(question, place).print(out),
+    match solve(file, &mut table, &mut work) {
+        Ok(_) => judge_all(&mut input, &rt, file, &table),
+        Err(refusal) => println!(rt; "{refusal}"),
     }
 }
 
 // A verdict for each position that is left in the input.
-fn judge_all(
-    input: &mut impl Read,
-    out: &impl Print,
-    file: &[u8],
-    position: &mut [u8],
-    table: &[u32],
-) -> io::Result<()> {
-    let mut left = MOST;
-    while left > 0 {
-        let piece = read_piece(input, position)?;
-        let Piece::Bytes(n) = piece else {
-            return Ok(());
+fn judge_all(input: &mut impl Read, rt: &impl Print, file: &[u8], table: &[u32]) -> io::Result<()> {
+    let mut buffer = [0u8; LONGEST];
+    for _ in 0..u64::MAX {
+        let Some(position) = read_piece(input, &mut buffer)? else {
+            break;
         };
-        print_verdict(out, judge(file, table, front(position, n)))?;
-        left -= 1;
+        println!(rt; "{}", Judged(judge(file, table, position)))?;
     }
     Ok(())
 }
 
-// Reads the next piece into a buffer.
-fn read_piece(input: &mut impl Read, buffer: &mut [u8]) -> io::Result<Piece> {
+// The next piece, read into a buffer, if the input has one.
+fn read_piece<'a>(
+    input: &mut impl Read,
+    buffer: &'a mut [u8; LONGEST],
+) -> io::Result<Option<&'a [u8]>> {
     let mut announced = [0u8; 2];
-    if read_full(input, &mut announced)? < 2 {
-        return Ok(Piece::Ended);
+    if read_full(input, &mut announced)?.len() < 2 {
+        return Ok(None);
     }
-    let n = number_of(announced[0], announced[1]);
-    if buffer.len() < n {
-        return Ok(Piece::Ended);
-    }
-    Ok(Piece::Bytes(read_full(input, &mut buffer[..n])?))
+    let n = usize::from(u16::from_le_bytes(announced));
+    Ok(Some(read_full(input, &mut buffer[..n])?))
 }
 
-// The number that two length bytes stand for.
-fn number_of(low: u8, high: u8) -> usize {
-    low as usize + 256 * (high as usize)
-}
+// The line of a position.
+#[derive(Clone, Copy)]
+struct Judged(Result<Verdict, Refusal>);
 
-fn print_verdict(out: &impl Print, verdict: Verdict) -> io::Result<()> {
-    match verdict {
-        Verdict::Lost { rule } => lost(rule).print(out),
-        Verdict::Target => Line::new().word(b"target").print(out),
-        Verdict::Eloise { rule, bound } => print_eloise(out, rule, bound),
-        Verdict::Abelard { bound } => Line::new().word(b"abelard ").number(bound).print(out),
-        Verdict::Refused { question, place } => refusal(question, place).print(out),
+impl fmt::Display for Judged {
+    fn fmt<W: fmt::Write>(&self, f: &mut fmt::Formatter<W>) -> fmt::Result {
+        match self.0 {
+            Ok(Verdict::Lost { rule: None }) => f.write_str("lost"),
+            Ok(Verdict::Lost { rule: Some(rule) }) => write!(f, "lost {rule}"),
+            Ok(Verdict::Target) => f.write_str("target"),
+            Ok(Verdict::Eloise { rule, bound }) => write!(f, "eloise {rule} {bound}"),
+            Ok(Verdict::Abelard { bound }) => write!(f, "abelard {bound}"),
+            Err(refusal) => write!(f, "{refusal}"),
+        }
     }
-}
-
-// The rule of Abelard's that leads to a lost position, by its number, if there is one.
-fn lost(rule: u32) -> Line {
-    if rule == 0 {
-        return Line::new().word(b"lost");
-    }
-    Line::new().word(b"lost ").number((rule - 1) as u64)
-}
-
-fn print_eloise(out: &impl Print, rule: u32, bound: u64) -> io::Result<()> {
-    Line::new()
-        .word(b"eloise ")
-        .number(rule as u64)
-        .byte(b' ')
-        .number(bound)
-        .print(out)
 }
