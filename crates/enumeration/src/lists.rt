@@ -1,6 +1,6 @@
 // The ends of rules, kept as lists of sets: one list after another in one area, and for each rule two words that say where its
 // list begins and where it ends. A rule whose list is empty is not listed.
-ghost use Rattle.std.specs.Prelude.{◌≡◌, true, ◌+◌, ◌*◌, ◌<◌, ◌≤◌, min, length};
+ghost use Rattle.std.specs.Prelude.{◌≡◌, true, ◌+◌, ◌*◌, ◌<◌, ◌≤◌, length};
 ghost use Rattle.enumeration.specs.Lists.{start_of, stop_of, Copied, Kept};
 
 // Room for the sets of all lists.
@@ -14,10 +14,7 @@ pub fn list_start(spans: &[usize], r: usize) -> usize
     requires { r < 256 }
     ensures { result ≡ start_of spans.now r }
 {
-    if spans.len() <= r * 2 {
-        return 0;
-    }
-    spans[r * 2]
+    spans.get(r * 2).copied().unwrap_or(0)
 }
 
 // Where it ends, within `size`.
@@ -25,20 +22,7 @@ pub fn list_end(spans: &[usize], r: usize, size: usize) -> usize
     requires { r < 256 }
     ensures { result ≡ stop_of spans.now r size }
 {
-    if spans.len() <= r * 2 + 1 {
-        return 0;
-    }
-    lesser(spans[r * 2 + 1], size)
-}
-
-// The lesser of two numbers.
-fn lesser(x: usize, y: usize) -> usize
-    ensures { result ≡ min x y }
-{
-    if y < x {
-        return y;
-    }
-    x
+    spans.get(r * 2 + 1).copied().unwrap_or(0).min(size)
 }
 
 // Rule r is listed.

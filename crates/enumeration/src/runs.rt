@@ -18,10 +18,10 @@ ghost use Rattle.enumeration.specs.Past.{older, Past, Aging};
 ghost use Rattle.enumeration.specs.NextLaws.{begin_of};
 ghost use Rattle.enumeration.specs.Jobs.{tag_of, Able, Late, Whole, Entered, Finished, sub_runs, begin_runs};
 
-use crate::fresh::{fresh_on, older_below, still_late};
+use crate::fresh::{LETTERS, fresh_on, older_below, still_late};
 use crate::lists::{is_listed, list_end, list_start};
 use crate::memo::{finish, is_finished};
-use crate::places::{end_at, is_blocked, start_at};
+use crate::places::{PLACES, end_at, is_blocked, start_at};
 use game::Game;
 use rounds::{highest, insert, next_rule};
 use table::EntryWords;
@@ -66,8 +66,8 @@ pub fn tag_of(state: u8, letter: u8, r: usize) -> u32
 pub fn rules_from(
     job: Job,
     rules: &[u8],
-    places: &[usize],
-    fresh: &[u32],
+    places: &[usize; PLACES],
+    fresh: &[u32; LETTERS],
     work: &[u32],
     table: &mut [u32],
     memo: &mut [u32],
@@ -127,8 +127,8 @@ pub fn rules_from(
 fn rules_by(
     job: Job,
     rules: &[u8],
-    places: &[usize],
-    fresh: &[u32],
+    places: &[usize; PLACES],
+    fresh: &[u32; LETTERS],
     work: &[u32],
     table: &mut [u32],
     memo: &mut [u32],
@@ -178,8 +178,8 @@ fn rules_by(
 pub fn runs_with(
     job: Job,
     rules: &[u8],
-    places: &[usize],
-    fresh: &[u32],
+    places: &[usize; PLACES],
+    fresh: &[u32; LETTERS],
     work: &[u32],
     table: &mut [u32],
     memo: &mut [u32],
@@ -250,8 +250,8 @@ pub fn runs_with(
 pub fn rules_after(
     job: Job,
     rules: &[u8],
-    places: &[usize],
-    fresh: &[u32],
+    places: &[usize; PLACES],
+    fresh: &[u32; LETTERS],
     work: &[u32],
     table: &mut [u32],
     memo: &mut [u32],
@@ -310,8 +310,8 @@ pub fn rules_after(
 fn pass_states(
     job: Job,
     rules: &[u8],
-    places: &[usize],
-    fresh: &[u32],
+    places: &[usize; PLACES],
+    fresh: &[u32; LETTERS],
     work: &[u32],
     table: &mut [u32],
     memo: &mut [u32],

@@ -1,6 +1,6 @@
 // The way in which the rounds of a game are taken: over families of sets where its sets have few states, in areas of one of three sizes, so
 // that a small game does not clear large ones; else by the walk of its runs.
-ghost use Rattle.std.specs.Prelude.{◌≡◌, true, List, ℕ, ◌*◌, ◌/◌, ◌^◌, ◌<◌, ◌≤◌, length, get_or, replicate};
+ghost use Rattle.std.specs.Prelude.{◌≡◌, true, List, ℕ, ◌*◌, ◌/◌, ◌^◌, ◌<◌, ◌≤◌, length, get_or, replicate, IfSome};
 ghost use Rattle.game.specs.Game.{PushdownGame};
 ghost use Rattle.rounds.specs.Solving.{solving_game};
 ghost use Rattle.unions.specs.ElementsOf.{ElementsOf};
@@ -31,14 +31,13 @@ pub fn rounds_by(
         → (numbering.count ≤ 10 → (el : List ℕ) × ElementsOf g el numbering.count numbering.states numbering.numbers)
         → called result table.new work.new ≡ leaving (solving_game g m) (length table.old) (length work.old) }
 {
-    let n = family_words(numbering, sizes.states);
+    let Some(n) = family_words(numbering, sizes.states) else {
+        return walk_rounds(sizes, rules, targets, table, work);
+    };
     let heads = (sizes.states as usize) * (sizes.letters as usize);
     let states = numbering.states;
     let numbers = numbering.numbers;
     let elements = numbering.count;
-    if n == 0 {
-        return walk_rounds(sizes, rules, targets, table, work);
-    }
     if does_fit(heads, n, 1, 256) {
         return few_rounds(
             sizes, rules, targets, elements, &states, &numbers, heads, n, table, work,
@@ -57,18 +56,18 @@ pub fn rounds_by(
     walk_rounds(sizes, rules, targets, table, work)
 }
 
-// How many words a family of sets has, or 0 where sets have more than ten states, or states that are none of the game.
-fn family_words(numbering: Numbering, states: u8) -> usize
-    ensures { 0 < result → Narrow numbering.count result numbering.states states }
+// How many words a family of sets has; none where sets have more than ten states, or states that are none of the game.
+fn family_words(numbering: Numbering, states: u8) -> Option<usize>
+    ensures { IfSome result (λ n. Narrow numbering.count n numbering.states states) }
 {
     if 10 < numbering.count {
-        return 0;
+        return None;
     }
     let listed = numbering.states;
     if !are_below(&listed, states) {
-        return 0;
+        return None;
     }
-    words_of(numbering.count)
+    Some(words_of(numbering.count))
 }
 
 // Every number of a list is below a limit.

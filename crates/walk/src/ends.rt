@@ -14,7 +14,7 @@ ghost use Rattle.enumeration.specs.Lists.{Listed, Zero, Bounded};
 ghost use Rattle.enumeration.specs.Places.{Placing};
 ghost use Rattle.walk.specs.RoundJobs.{alone, Blank};
 
-use enumeration::{Job, LINE, end_at, keep_list, runs_with, start_at};
+use enumeration::{Job, LETTERS, LINE, PLACES, end_at, keep_list, runs_with, start_at};
 use game::Game;
 use rounds::next_rule;
 use table::EntryWords;
@@ -28,8 +28,8 @@ const MARKS: usize = 1024;
 pub fn list_later(
     job: Job,
     rules: &[u8],
-    places: &[usize],
-    fresh: &[u32],
+    places: &[usize; PLACES],
+    fresh: &[u32; LETTERS],
     work: &[u32],
     lists: &mut [u32],
     spans: &mut [usize],
@@ -57,8 +57,8 @@ pub fn list_later(
 fn list_rules(
     job: Job,
     rules: &[u8],
-    places: &[usize],
-    fresh: &[u32],
+    places: &[usize; PLACES],
+    fresh: &[u32; LETTERS],
     work: &[u32],
     lists: &mut [u32],
     spans: &mut [usize],
@@ -88,8 +88,8 @@ fn list_rules(
 fn list_rule(
     job: Job,
     rules: &[u8],
-    places: &[usize],
-    fresh: &[u32],
+    places: &[usize; PLACES],
+    fresh: &[u32; LETTERS],
     work: &[u32],
     sets: &mut [u32],
     memo: &mut [u32],
@@ -128,8 +128,8 @@ fn list_rule(
 fn find_ends(
     job: Job,
     rules: &[u8],
-    places: &[usize],
-    fresh: &[u32],
+    places: &[usize; PLACES],
+    fresh: &[u32; LETTERS],
     work: &[u32],
     sets: &mut [u32],
     memo: &mut [u32],

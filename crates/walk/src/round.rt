@@ -68,8 +68,8 @@ pub fn take_wide(
 fn add_runs(
     sizes: Sizes,
     rules: &[u8],
-    places: &[usize],
-    fresh: &[u32],
+    places: &[usize; PLACES],
+    fresh: &[u32; LETTERS],
     work: &[u32],
     table: &mut [u32],
     memo: &mut [u32],
@@ -129,7 +129,7 @@ fn first_rule(sizes: Sizes, rules: &[u8], p: u8, a: u8, later: bool) -> Option<u
 fn job_of(
     sizes: Sizes,
     rules: &[u8],
-    fresh: &[u32],
+    fresh: &[u32; LETTERS],
     p: u8,
     a: u8,
     birthdate: u32,
@@ -165,7 +165,7 @@ fn job_of(
 
 // Where a rule's runs begin and end, by their first transition: there is one, where it writes nothing. They end at once where none of
 // them can have an entry of the last round, nor one of the job's later rules.
-fn runs_start(rules: &[u8], places: &[usize], r: usize, old: usize) -> usize
+fn runs_start(rules: &[u8], places: &[usize; PLACES], r: usize, old: usize) -> usize
     requires { (r + 1) * 6 ≤ length rules.now }
     ensures { RunsStart rules.now places.now r old result }
 {
@@ -176,7 +176,14 @@ fn runs_start(rules: &[u8], places: &[usize], r: usize, old: usize) -> usize
     start_at(places, old, rules[at + 2], rules[at + 4])
 }
 
-fn runs_end(rules: &[u8], places: &[usize], r: usize, old: usize, last: usize, late: u32) -> usize
+fn runs_end(
+    rules: &[u8],
+    places: &[usize; PLACES],
+    r: usize,
+    old: usize,
+    last: usize,
+    late: u32,
+) -> usize
     requires { (r + 1) * 6 ≤ length rules.now }
     ensures { ((0 < late) × (last ≤ r) × (result ≡ 0)) ⊎ RunsEnd rules.now places.now r old result }
 {
@@ -194,18 +201,15 @@ fn runs_end(rules: &[u8], places: &[usize], r: usize, old: usize, last: usize, l
 fn is_settled(last: usize, r: usize, late: u32) -> bool
     ensures { result ≡ true → (0 < late) × (last ≤ r) }
 {
-    if late == 0 {
-        return false;
-    }
-    last <= r
+    late != 0 && last <= r
 }
 
 // Run i of rule r, with those of the job's later rules.
 fn run_at(
     job: Job,
     rules: &[u8],
-    places: &[usize],
-    fresh: &[u32],
+    places: &[usize; PLACES],
+    fresh: &[u32; LETTERS],
     work: &[u32],
     table: &mut [u32],
     memo: &mut [u32],

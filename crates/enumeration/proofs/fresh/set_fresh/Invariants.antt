@@ -5,4 +5,4 @@ use Rattle.enumeration.specs.Past.{Marked}
 use Rattle.enumeration.proofs.fresh.set_fresh.Given as goal
 
 abbrev pub invariant-loop-i : goal.invariant-loop-i
-invariant-loop-i l = (length l.fresh ≡ length l.initial.fresh) × (length l.initial.fresh ≡ 256 → Marked l.work l.fresh l.late l.i)
+invariant-loop-i l = Marked l.work l.fresh l.late l.i

@@ -6,4 +6,4 @@ use Rattle.enumeration.specs.Places.{PlacedTo}
 use Rattle.enumeration.proofs.places.set_places.Given as goal
 
 abbrev pub invariant-loop-q : goal.invariant-loop-q
-invariant-loop-q l = (length l.places ≡ length l.initial.places) × (l.q ≤ l.states) × (length l.initial.places ≡ 4096 → l.states ≤ 32 → l.letters ≤ 64 → PlacedTo l.work l.count l.places l.letters (l.q * 64))
+invariant-loop-q l = (l.q ≤ l.states) × (l.states ≤ 32 → l.letters ≤ 64 → PlacedTo l.work l.count l.places l.letters (l.q * 64))

@@ -10,4 +10,4 @@ add_runs-requires c = (c.requires.0, c.requires.1, c.requires.2, c.requires.3, r
 
 pub returns-clause-filled : goal.returns-clause-filled
 returns-clause-filled c =
-    λ g es n held good ranged work table past. c.add_runs.ensures.filled g es n held good ranged work table past c.late_of-late.ensures (c.set_fresh.ensures.marked refl) (heads-placed g _ _ held good _ _ _ (c.set_places.ensures.placed_to refl c.requires.0.states (letters-few g _ _ held good))) (zeros-blank 24576)
+    λ g es n held good ranged work table past. c.add_runs.ensures.filled g es n held good ranged work table past c.late_of-late.ensures c.set_fresh.ensures (heads-placed g _ _ held good _ _ _ (c.set_places.ensures c.requires.0.states (letters-few g _ _ held good))) (zeros-blank 24576)
