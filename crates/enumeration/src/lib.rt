@@ -12,7 +12,7 @@ mod places;
 mod runs;
 
 pub use fresh::{LETTERS, last_fresh, late_of, set_fresh};
-pub use lists::{LISTED, SPANS, keep_list};
+pub use lists::{LISTED, Lists, SPANS, keep_list};
 pub use memo::{LINE, LINES};
 pub use places::{PLACES, end_at, set_places, start_at};
-pub use runs::{Job, joined, rules_after, runs_with};
+pub use runs::{Job, Task, joined, rules_after, runs_with};

@@ -9,6 +9,13 @@ pub const LISTED: usize = 4096;
 // Two words for each of 256 rules: where its list begins, and after its last set.
 pub const SPANS: usize = 512;
 
+// The lists, where they are only read.
+#[derive(Clone, Copy)]
+pub struct Lists<'a> {
+    pub sets: &'a [u32],
+    pub spans: &'a [usize],
+}
+
 // Where the list of a rule begins.
 pub fn list_start(spans: &[usize], r: usize) -> usize
     requires { r < 256 }

@@ -19,7 +19,7 @@ ghost use Rattle.enumeration.specs.NextLaws.{begin_of};
 ghost use Rattle.enumeration.specs.Jobs.{tag_of, Able, Late, Whole, Entered, Finished, sub_runs, begin_runs};
 
 use crate::fresh::{LETTERS, fresh_on, older_below, still_late};
-use crate::lists::{is_listed, list_end, list_start};
+use crate::lists::{Lists, is_listed, list_end, list_start};
 use crate::memo::{finish, is_finished};
 use crate::places::{PLACES, end_at, is_blocked, start_at};
 use game::Game;
@@ -37,6 +37,18 @@ pub struct Job {
     pub end: usize,
     pub count: usize,
     pub last: usize,
+}
+
+// A job with what its runs are taken from: the rules, the old round, where the entries of each head stand in it, and the marks of those of
+// the last round.
+#[derive(Clone, Copy)]
+pub struct Task<'a> {
+    pub job: Job,
+    pub rules: &'a [u8],
+    pub work: &'a [u32],
+    pub places: &'a [usize; PLACES],
+    pub fresh: &'a [u32; LETTERS],
+    ghost able: { Able job (length rules.now) (length work.now) },
 }
 
 // A set with a state more; the set itself, where there is no such state.
@@ -64,25 +76,20 @@ pub fn tag_of(state: u8, letter: u8, r: usize) -> u32
 // here on is in the table already.
 #[cycle(runs)]
 pub fn rules_from(
-    job: Job,
-    rules: &[u8],
-    places: &[usize; PLACES],
-    fresh: &[u32; LETTERS],
-    work: &[u32],
+    task: Task,
+    lists: Lists,
     table: &mut [u32],
     memo: &mut [u32],
-    lists: &[u32],
-    spans: &[usize],
     count: usize,
     from: usize,
     union: u32,
     late: u32,
 ) -> Option<usize>
-    requires { Able job (length rules.now) (length work.now) × (from ≤ job.end) }
-    ensures finished { (g : PushdownGame) (old : List Entry) (birthdate n : ℕ) (s : Growing)
-        → Entered g old birthdate n job rules.now work.now table.old count memo.old s
-        → Placing g work.now job.count places.now
-        → Aging g old birthdate job fresh.now → Listed g old lists.now spans.now
+    requires { from ≤ task.job.end }
+    ensures finished { let job = task.entry.job in (g : PushdownGame) (old : List Entry) (birthdate n : ℕ) (s : Growing)
+        → Entered g old birthdate n job task.entry.rules.now task.entry.work.now table.old count memo.old s
+        → Placing g task.entry.work.now job.count task.entry.places.now
+        → Aging g old birthdate job task.entry.fresh.now → Listed g old lists.entry.sets.now lists.entry.spans.now
         → Late g job from → 0 < union
         → Past birthdate n late (map (entry_at job.state job.letter birthdate job.field) (rest_runs g (older birthdate old) (rules_between g job.state job.letter from job.end) union)) s
         → Finished g old birthdate n
@@ -92,32 +99,44 @@ pub fn rules_from(
     ensures table_len_unchanged { length table.new ≡ length table.old }
     ensures memo_len_unchanged { length memo.new ≡ length memo.old }
 {
-    let Some(r) = next_rule(rules, job.end, from, job.state, job.letter) else {
+    let Some(r) = next_rule(
+        task.rules,
+        task.job.end,
+        from,
+        task.job.state,
+        task.job.letter,
+    ) else {
         let entry = EntryWords {
-            first: job.first,
+            first: task.job.first,
             set: union,
-            rule: job.field,
+            rule: task.job.field,
         };
         return insert(table, count, entry);
     };
     let at = r * Game::RULE_STRIDE;
-    if rules[at + 3] == 0 {
-        let passed = joined(union, rules[at + 2]);
-        return rules_after(
-            job, rules, places, fresh, work, table, memo, lists, spans, count, r, passed, late,
-        );
+    if task.rules[at + 3] == 0 {
+        let passed = joined(union, task.rules[at + 2]);
+        return rules_after(task, lists, table, memo, count, r, passed, late);
     }
-    if is_listed(lists, spans, r) {
-        return rules_by(
-            job, rules, places, fresh, work, table, memo, lists, spans, count, r, union,
-        );
+    if is_listed(lists.sets, lists.spans, r) {
+        return rules_by(task, lists, table, memo, count, r, union);
     }
-    let end = end_at(places, job.count, rules[at + 2], rules[at + 4]);
+    let end = end_at(
+        task.places,
+        task.job.count,
+        task.rules[at + 2],
+        task.rules[at + 4],
+    );
     let mut filled = count;
-    for i in start_at(places, job.count, rules[at + 2], rules[at + 4])..end {
-        filled = runs_with(
-            job, rules, places, fresh, work, table, memo, lists, spans, filled, r, i, union, late,
-        )?;
+    for i in start_at(
+        task.places,
+        task.job.count,
+        task.rules[at + 2],
+        task.rules[at + 4],
+    )
+        ..end
+    {
+        filled = runs_with(task, lists, table, memo, filled, r, i, union, late)?;
     }
     Some(filled)
 }
@@ -125,48 +144,38 @@ pub fn rules_from(
 // The same from rule r on, which is listed: the ends of its runs one after another. What older entries give is not left out.
 #[cycle(runs)]
 fn rules_by(
-    job: Job,
-    rules: &[u8],
-    places: &[usize; PLACES],
-    fresh: &[u32; LETTERS],
-    work: &[u32],
+    task: Task,
+    lists: Lists,
     table: &mut [u32],
     memo: &mut [u32],
-    lists: &[u32],
-    spans: &[usize],
     count: usize,
     r: usize,
     union: u32,
 ) -> Option<usize>
-    requires { Able job (length rules.now) (length work.now) × (r < job.end) }
-    ensures finished { (g : PushdownGame) (old : List Entry) (birthdate n : ℕ) (s : Growing)
-        → Entered g old birthdate n job rules.now work.now table.old count memo.old s
-        → Placing g work.now job.count places.now
-        → Aging g old birthdate job fresh.now → Listed g old lists.now spans.now
-        → Whole g job r → start_of spans.now r < stop_of spans.now r (length lists.now)
+    requires { r < task.job.end }
+    ensures finished { let job = task.entry.job in (g : PushdownGame) (old : List Entry) (birthdate n : ℕ) (s : Growing)
+        → Entered g old birthdate n job task.entry.rules.now task.entry.work.now table.old count memo.old s
+        → Placing g task.entry.work.now job.count task.entry.places.now
+        → Aging g old birthdate job task.entry.fresh.now → Listed g old lists.entry.sets.now lists.entry.spans.now
+        → Whole g job r → start_of lists.entry.spans.now r < stop_of lists.entry.spans.now r (length lists.entry.sets.now)
         → Finished g old birthdate n
-        (map (entry_at job.state job.letter birthdate job.field) (listed_runs g old job.state job.letter job.end lists.now spans.now r union))
+        (map (entry_at job.state job.letter birthdate job.field) (listed_runs g old job.state job.letter job.end lists.entry.sets.now lists.entry.spans.now r union))
         s table.new (number_of n result) memo.new }
     ensures within { count * 3 ≤ length table.old → IfSome result (λ filled. filled * 3 ≤ length table.old) }
     ensures table_len_unchanged { length table.new ≡ length table.old }
     ensures memo_len_unchanged { length memo.new ≡ length memo.old }
 {
-    let end = list_end(spans, r, lists.len());
+    let end = list_end(lists.spans, r, lists.sets.len());
     let mut filled = count;
-    for i in list_start(spans, r)..end {
+    for i in list_start(lists.spans, r)..end {
         filled = rules_after(
-            job,
-            rules,
-            places,
-            fresh,
-            work,
+            task,
+            lists,
             table,
             memo,
-            lists,
-            spans,
             filled,
             r,
-            union | lists[i],
+            union | lists.sets[i],
             0,
         )?;
     }
@@ -176,26 +185,21 @@ fn rules_by(
 // The runs of rule r that begin with entry i of the old round.
 #[cycle(runs)]
 pub fn runs_with(
-    job: Job,
-    rules: &[u8],
-    places: &[usize; PLACES],
-    fresh: &[u32; LETTERS],
-    work: &[u32],
+    task: Task,
+    lists: Lists,
     table: &mut [u32],
     memo: &mut [u32],
-    lists: &[u32],
-    spans: &[usize],
     count: usize,
     r: usize,
     i: usize,
     union: u32,
     late: u32,
 ) -> Option<usize>
-    requires { Able job (length rules.now) (length work.now) × (r < job.end) × (i < job.count) }
-    ensures finished { (g : PushdownGame) (old : List Entry) (birthdate n : ℕ) (s : Growing)
-        → Entered g old birthdate n job rules.now work.now table.old count memo.old s
-        → Placing g work.now job.count places.now
-        → Aging g old birthdate job fresh.now → Listed g old lists.now spans.now
+    requires { (r < task.job.end) × (i < task.job.count) }
+    ensures finished { let job = task.entry.job in (g : PushdownGame) (old : List Entry) (birthdate n : ℕ) (s : Growing)
+        → Entered g old birthdate n job task.entry.rules.now task.entry.work.now table.old count memo.old s
+        → Placing g task.entry.work.now job.count task.entry.places.now
+        → Aging g old birthdate job task.entry.fresh.now → Listed g old lists.entry.sets.now lists.entry.spans.now
         → Whole g job r
         → Past birthdate n late (map (entry_at job.state job.letter birthdate job.field) (flat_map (begin_of g (older birthdate old) job.state job.letter job.end r union) (older birthdate old))) s
         → Finished g old birthdate n
@@ -205,68 +209,46 @@ pub fn runs_with(
     ensures table_len_unchanged { length table.new ≡ length table.old }
     ensures memo_len_unchanged { length memo.new ≡ length memo.old }
 {
-    let entry = EntryWords::at(work, i);
+    let entry = EntryWords::at(task.work, i);
     let at = r * Game::RULE_STRIDE;
-    if entry.state() != rules[at + 2] {
+    if entry.state() != task.rules[at + 2] {
         return Some(count);
     }
-    if entry.letter() != rules[at + 4] {
+    if entry.letter() != task.rules[at + 4] {
         return Some(count);
     }
     let still = still_late(late, entry.first);
-    if rules[at + 3] == 1 {
-        return rules_after(
-            job,
-            rules,
-            places,
-            fresh,
-            work,
-            table,
-            memo,
-            lists,
-            spans,
-            count,
-            r,
-            union | entry.set,
-            still,
-        );
+    if task.rules[at + 3] == 1 {
+        return rules_after(task, lists, table, memo, count, r, union | entry.set, still);
     }
-    if is_blocked(places, job.count, entry.set, rules[at + 5]) {
+    if is_blocked(task.places, task.job.count, entry.set, task.rules[at + 5]) {
         return Some(count);
     }
-    let among = entry.set & fresh_on(fresh, rules[at + 5]);
-    if 0 < older_below(job.last, r, among, still) {
+    let among = entry.set & fresh_on(task.fresh, task.rules[at + 5]);
+    if 0 < older_below(task.job.last, r, among, still) {
         return Some(count);
     }
-    pass_states(
-        job, rules, places, fresh, work, table, memo, lists, spans, count, r, entry.set, union,
-        still,
-    )
+    pass_states(task, lists, table, memo, count, r, entry.set, union, still)
 }
 
 // Rule r is passed, with a union in hand: the job's later rules, unless the memo has it, or no entry of the last round is on the way
 // and none can come.
 #[cycle(runs)]
 pub fn rules_after(
-    job: Job,
-    rules: &[u8],
-    places: &[usize; PLACES],
-    fresh: &[u32; LETTERS],
-    work: &[u32],
+    task: Task,
+    lists: Lists,
     table: &mut [u32],
     memo: &mut [u32],
-    lists: &[u32],
-    spans: &[usize],
     count: usize,
     r: usize,
     union: u32,
     late: u32,
 ) -> Option<usize>
-    requires { Able job (length rules.now) (length work.now) × (r < job.end) }
-    ensures finished { (g : PushdownGame) (old : List Entry) (birthdate n : ℕ) (s : Growing)
-        → Entered g old birthdate n job rules.now work.now table.old count memo.old s
-        → Placing g work.now job.count places.now
-        → Aging g old birthdate job fresh.now → Listed g old lists.now spans.now
+    requires { r < task.job.end }
+    ensures finished { let job = task.entry.job in (g : PushdownGame) (old : List Entry) (birthdate n : ℕ) (s : Growing)
+        → Entered g old birthdate n job task.entry.rules.now task.entry.work.now table.old count memo.old s
+        → Placing g task.entry.work.now job.count task.entry.places.now
+        → Aging g old birthdate job task.entry.fresh.now → Listed g old lists.entry.sets.now lists.entry.spans.now
         → Whole g job r → 0 < union
         → Past birthdate n late (map (entry_at job.state job.letter birthdate job.field) (sub_runs g (older birthdate old) job.state job.letter job.end r 0 union)) s
         → Finished g old birthdate n
@@ -276,28 +258,14 @@ pub fn rules_after(
     ensures table_len_unchanged { length table.new ≡ length table.old }
     ensures memo_len_unchanged { length memo.new ≡ length memo.old }
 {
-    if 0 < older_below(job.last, r, 0, late) {
+    if 0 < older_below(task.job.last, r, 0, late) {
         return Some(count);
     }
-    let tag = tag_of(job.state, job.letter, r);
+    let tag = tag_of(task.job.state, task.job.letter, r);
     if is_finished(memo, tag, 0, union) {
         return Some(count);
     }
-    let filled = rules_from(
-        job,
-        rules,
-        places,
-        fresh,
-        work,
-        table,
-        memo,
-        lists,
-        spans,
-        count,
-        r + 1,
-        union,
-        late,
-    );
+    let filled = rules_from(task, lists, table, memo, count, r + 1, union, late);
     finish(memo, tag, 0, union);
     filled
 }
@@ -308,26 +276,21 @@ pub fn rules_after(
 // are no more than states.
 #[cycle(runs)]
 fn pass_states(
-    job: Job,
-    rules: &[u8],
-    places: &[usize; PLACES],
-    fresh: &[u32; LETTERS],
-    work: &[u32],
+    task: Task,
+    lists: Lists,
     table: &mut [u32],
     memo: &mut [u32],
-    lists: &[u32],
-    spans: &[usize],
     count: usize,
     r: usize,
     set: u32,
     reached: u32,
     late: u32,
 ) -> Option<usize>
-    requires { Able job (length rules.now) (length work.now) × (r < job.end) × (0 < set) }
-    ensures finished { (g : PushdownGame) (old : List Entry) (birthdate n : ℕ) (s : Growing)
-        → Entered g old birthdate n job rules.now work.now table.old count memo.old s
-        → Placing g work.now job.count places.now
-        → Aging g old birthdate job fresh.now → Listed g old lists.now spans.now
+    requires { (r < task.job.end) × (0 < set) }
+    ensures finished { let job = task.entry.job in (g : PushdownGame) (old : List Entry) (birthdate n : ℕ) (s : Growing)
+        → Entered g old birthdate n job task.entry.rules.now task.entry.work.now table.old count memo.old s
+        → Placing g task.entry.work.now job.count task.entry.places.now
+        → Aging g old birthdate job task.entry.fresh.now → Listed g old lists.entry.sets.now lists.entry.spans.now
         → Whole g job r → set < 2 ^ g.states
         → Past birthdate n late (map (entry_at job.state job.letter birthdate job.field) (sub_runs g (older birthdate old) job.state job.letter job.end r set reached)) s
         → Finished g old birthdate n
@@ -337,25 +300,25 @@ fn pass_states(
     ensures table_len_unchanged { length table.new ≡ length table.old }
     ensures memo_len_unchanged { length memo.new ≡ length memo.old }
 {
-    let tag = tag_of(job.state, job.letter, r);
-    let below = rules[r * Game::RULE_STRIDE + 5];
+    let tag = tag_of(task.job.state, task.job.letter, r);
+    let below = task.rules[r * Game::RULE_STRIDE + 5];
     let mut lefts = [0u32; Game::MAX_STATES as usize];
     let mut unions = [0u32; Game::MAX_STATES as usize];
     let mut nexts = [0usize; Game::MAX_STATES as usize];
     let mut limits = [0u32; Game::MAX_STATES as usize];
-    let new = fresh_on(fresh, below);
+    let new = fresh_on(task.fresh, below);
     let mut depth = 0;
     let mut filled = count;
     let mut left = set;
     let mut union = reached;
     let mut limit = late;
-    let mut i = start_at(places, job.count, highest(set), below);
+    let mut i = start_at(task.places, task.job.count, highest(set), below);
     loop {
         let q = highest(left);
         let rest = left % (1u32 << q);
-        let end = end_at(places, job.count, q, below);
-        let passing = older_below(job.last, r, rest & new, limit);
-        let Some(found) = next_open(work, memo, tag, rest, union, i, end, passing) else {
+        let end = end_at(task.places, task.job.count, q, below);
+        let passing = older_below(task.job.last, r, rest & new, limit);
+        let Some(found) = next_open(task.work, memo, tag, rest, union, i, end, passing) else {
             if depth == 0 {
                 return Some(filled);
             }
@@ -367,13 +330,10 @@ fn pass_states(
             limit = limits[depth];
             continue;
         };
-        let passed = union | work[found * EntryWords::STRIDE + 1];
-        let still = still_late(limit, work[found * EntryWords::STRIDE]);
+        let passed = union | task.work[found * EntryWords::STRIDE + 1];
+        let still = still_late(limit, task.work[found * EntryWords::STRIDE]);
         if rest == 0 {
-            filled = rules_after(
-                job, rules, places, fresh, work, table, memo, lists, spans, filled, r, passed,
-                still,
-            )?;
+            filled = rules_after(task, lists, table, memo, filled, r, passed, still)?;
             i = found + 1;
             continue;
         }
@@ -385,7 +345,7 @@ fn pass_states(
         left = rest;
         union = passed;
         limit = still;
-        i = start_at(places, job.count, highest(rest), below);
+        i = start_at(task.places, task.job.count, highest(rest), below);
     }
 }
 
