@@ -14,7 +14,7 @@ ghost use Rattle.enumeration.specs.Lists.{Listed, Zero, Bounded};
 ghost use Rattle.enumeration.specs.Places.{Placing};
 ghost use Rattle.walk.specs.RoundJobs.{alone, Blank};
 
-use enumeration::{Job, LETTERS, LINE, PLACES, end_at, keep_list, runs_with, start_at};
+use enumeration::{Job, LINE, LISTED, Lists, SPANS, Task, end_at, keep_list, runs_with, start_at};
 use game::Game;
 use rounds::next_rule;
 use table::EntryWords;
@@ -24,96 +24,86 @@ const ENDS: usize = 1024;
 
 const MARKS: usize = 1024;
 
+// How many words both have.
+const SETS: usize = ENDS * EntryWords::STRIDE;
+
+const WORDS: usize = MARKS * LINE;
+
 // Where the job of rule r is Abelard's and has runs, from `start` to `end`, its later rules are listed, and no other.
 pub fn list_later(
-    job: Job,
-    rules: &[u8],
-    places: &[usize; PLACES],
-    fresh: &[u32; LETTERS],
-    work: &[u32],
-    lists: &mut [u32],
-    spans: &mut [usize],
+    task: Task,
+    lists: &mut [u32; LISTED],
+    spans: &mut [usize; SPANS],
     r: usize,
     start: usize,
     end: usize,
 )
-    requires { Able job (length rules.now) (length work.now) × (r < job.end) × (length lists.old ≡ 4096) × (length spans.old ≡ 512) }
-    ensures listed { (g : PushdownGame) (old : List Entry) (birthdate : ℕ) → Stands g old birthdate job rules.now work.now
-        → Placing g work.now job.count places.now → Aging g old birthdate job fresh.now
+    requires { r < task.job.end }
+    ensures { let job = task.entry.job in (g : PushdownGame) (old : List Entry) (birthdate : ℕ) → Stands g old birthdate job task.entry.rules.now task.entry.work.now
+        → Placing g task.entry.work.now job.count task.entry.places.now → Aging g old birthdate job task.entry.fresh.now
         → Listed g old lists.old spans.old → Listed g old lists.new spans.new }
-    ensures lists_len_unchanged { length lists.new ≡ length lists.old }
-    ensures spans_len_unchanged { length spans.new ≡ length spans.old }
 {
-    if job.field != 0 {
+    if task.job.field != 0 {
         return;
     }
     if end <= start {
         return;
     }
-    list_rules(job, rules, places, fresh, work, lists, spans, r);
+    list_rules(task, lists, spans, r);
 }
 
 // The rules of a job after rule `first`.
-fn list_rules(
-    job: Job,
-    rules: &[u8],
-    places: &[usize; PLACES],
-    fresh: &[u32; LETTERS],
-    work: &[u32],
-    lists: &mut [u32],
-    spans: &mut [usize],
-    first: usize,
-)
-    requires { Able job (length rules.now) (length work.now) × (first < job.end) × (length lists.old ≡ 4096) × (length spans.old ≡ 512) }
-    ensures listed { (g : PushdownGame) (old : List Entry) (birthdate : ℕ) → Stands g old birthdate job rules.now work.now
-        → Placing g work.now job.count places.now → Aging g old birthdate job fresh.now
+fn list_rules(task: Task, lists: &mut [u32; LISTED], spans: &mut [usize; SPANS], first: usize)
+    requires { first < task.job.end }
+    ensures { let job = task.entry.job in (g : PushdownGame) (old : List Entry) (birthdate : ℕ) → Stands g old birthdate job task.entry.rules.now task.entry.work.now
+        → Placing g task.entry.work.now job.count task.entry.places.now → Aging g old birthdate job task.entry.fresh.now
         → Listed g old lists.new spans.new }
-    ensures lists_len_unchanged { length lists.new ≡ length lists.old }
-    ensures spans_len_unchanged { length spans.new ≡ length spans.old }
 {
     spans.fill(0);
-    let mut sets = [0u32; ENDS * EntryWords::STRIDE];
-    let mut memo = [0u32; MARKS * LINE];
+    let mut sets = [0u32; SETS];
+    let mut memo = [0u32; WORDS];
     let mut room = 0;
-    let mut next = next_rule(rules, job.end, first + 1, job.state, job.letter);
+    let mut next = next_rule(
+        task.rules,
+        task.job.end,
+        first + 1,
+        task.job.state,
+        task.job.letter,
+    );
     while let Some(r) = next {
-        room = list_rule(
-            job, rules, places, fresh, work, &mut sets, &mut memo, lists, spans, r, room,
+        room = list_rule(task, &mut sets, &mut memo, lists, spans, r, room);
+        next = next_rule(
+            task.rules,
+            task.job.end,
+            r + 1,
+            task.job.state,
+            task.job.letter,
         );
-        next = next_rule(rules, job.end, r + 1, job.state, job.letter);
     }
 }
 
 // Rule r, its list from `room` on: where the room begins afterwards.
 fn list_rule(
-    job: Job,
-    rules: &[u8],
-    places: &[usize; PLACES],
-    fresh: &[u32; LETTERS],
-    work: &[u32],
-    sets: &mut [u32],
-    memo: &mut [u32],
-    lists: &mut [u32],
-    spans: &mut [usize],
+    task: Task,
+    sets: &mut [u32; SETS],
+    memo: &mut [u32; WORDS],
+    lists: &mut [u32; LISTED],
+    spans: &mut [usize; SPANS],
     r: usize,
     room: usize,
 ) -> usize
-    requires { Able job (length rules.now) (length work.now) × (r < job.end) × (length sets.old ≡ 3072) × (length lists.old ≡ 4096) × (length spans.old ≡ 512) × (room ≤ 4096) }
-    ensures listed { (g : PushdownGame) (old : List Entry) (birthdate : ℕ) → Stands g old birthdate job rules.now work.now
-        → Placing g work.now job.count places.now → Aging g old birthdate job fresh.now
-        → of_head job.state job.letter (rule_at rules.now (r * 6) 0) ≡ true → Zero sets.old → Zero memo.old
+    requires { (r < task.job.end) × (room ≤ 4096) }
+    ensures listed { let job = task.entry.job in (g : PushdownGame) (old : List Entry) (birthdate : ℕ) → Stands g old birthdate job task.entry.rules.now task.entry.work.now
+        → Placing g task.entry.work.now job.count task.entry.places.now → Aging g old birthdate job task.entry.fresh.now
+        → of_head job.state job.letter (rule_at task.entry.rules.now (r * 6) 0) ≡ true → Zero sets.old → Zero memo.old
         → Bounded spans.old room → Listed g old lists.old spans.old → Listed g old lists.new spans.new }
     ensures upper_bound { (result ≤ 4096) × (Bounded spans.old room → Bounded spans.new result)
         × (Zero sets.old → Zero sets.new) × (Zero memo.old → Zero memo.new) }
-    ensures sets_len_unchanged { length sets.new ≡ length sets.old }
-    ensures memo_len_unchanged { length memo.new ≡ length memo.old }
-    ensures lists_len_unchanged { length lists.new ≡ length lists.old }
-    ensures spans_len_unchanged { length spans.new ≡ length spans.old }
 {
-    if rules[r * Game::RULE_STRIDE + 3] != 2 {
+    if task.rules[r * Game::RULE_STRIDE + 3] != 2 {
         return room;
     }
-    let found = find_ends(job, rules, places, fresh, work, sets, memo, r);
+    let found = find_ends(task, sets, memo, r);
     memo.fill(0);
     let Some(count) = found else {
         sets.fill(0);
@@ -125,36 +115,45 @@ fn list_rule(
 }
 
 // The ends of the runs of rule r as entries of an area that has none: how many; none, where there are more than it can hold.
-fn find_ends(
-    job: Job,
-    rules: &[u8],
-    places: &[usize; PLACES],
-    fresh: &[u32; LETTERS],
-    work: &[u32],
-    sets: &mut [u32],
-    memo: &mut [u32],
-    r: usize,
-) -> Option<usize>
-    requires { Able job (length rules.now) (length work.now) × (r < job.end) }
-    ensures filled { (g : PushdownGame) (old : List Entry) (birthdate m : ℕ) → Stands g old birthdate job rules.now work.now
-        → Placing g work.now job.count places.now → Aging g old birthdate job fresh.now
-        → of_head job.state job.letter (rule_at rules.now (r * 6) 0) ≡ true → get_or rules.now (r * 6 + 3) 0 ≡ 2
+fn find_ends(task: Task, sets: &mut [u32; SETS], memo: &mut [u32; WORDS], r: usize) -> Option<usize>
+    requires { r < task.job.end }
+    ensures filled { let job = task.entry.job in (g : PushdownGame) (old : List Entry) (birthdate m : ℕ) → Stands g old birthdate job task.entry.rules.now task.entry.work.now
+        → Placing g task.entry.work.now job.count task.entry.places.now → Aging g old birthdate job task.entry.fresh.now
+        → of_head job.state job.letter (rule_at task.entry.rules.now (r * 6) 0) ≡ true → get_or task.entry.rules.now (r * 6 + 3) 0 ≡ 2
         → Stored m sets.old 0 [] → Blank memo.old
         → Filled m sets.new (number_of m result) (growing m (map (entry_at job.state job.letter birthdate (r + 1)) (rule_ends g old (get_or g.rules r no_rule))) (partly [])) }
-    ensures within { IfSome result (λ count. count * 3 ≤ length sets.old) }
-    ensures sets_len_unchanged { length sets.new ≡ length sets.old }
-    ensures memo_len_unchanged { length memo.new ≡ length memo.old }
+    ensures within { IfSome result (λ count. count ≤ 1024) }
 {
     let none = [0u32; 1];
-    let unlisted = [0usize; 1];
-    let alone = alone_of(job, r);
+    let spans = [0usize; 1];
+    let alone = Task {
+        job: alone_of(task.job, r),
+        rules: task.rules,
+        work: task.work,
+        places: task.places,
+        fresh: task.fresh,
+    };
+    let unlisted = Lists {
+        sets: &none,
+        spans: &spans,
+    };
     let at = r * Game::RULE_STRIDE;
-    let end = end_at(places, alone.count, rules[at + 2], rules[at + 4]);
+    let end = end_at(
+        task.places,
+        alone.job.count,
+        task.rules[at + 2],
+        task.rules[at + 4],
+    );
     let mut count = 0;
-    for i in start_at(places, alone.count, rules[at + 2], rules[at + 4])..end {
-        count = runs_with(
-            alone, rules, places, fresh, work, sets, memo, &none, &unlisted, count, r, i, 0, 0,
-        )?;
+    for i in start_at(
+        task.places,
+        alone.job.count,
+        task.rules[at + 2],
+        task.rules[at + 4],
+    )
+        ..end
+    {
+        count = runs_with(alone, unlisted, sets, memo, count, r, i, 0, 0)?;
     }
     Some(count)
 }

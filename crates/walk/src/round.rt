@@ -22,8 +22,8 @@ ghost use Rattle.walk.specs.TurnLaws.{agrees};
 
 use crate::ends::list_later;
 use enumeration::{
-    Job, LETTERS, LINE, LINES, LISTED, PLACES, SPANS, end_at, joined, last_fresh, late_of,
-    rules_after, runs_with, set_fresh, set_places, start_at,
+    Job, LETTERS, LINE, LINES, LISTED, Lists, PLACES, SPANS, Task, end_at, joined, last_fresh,
+    late_of, rules_after, runs_with, set_fresh, set_places, start_at,
 };
 use game::{Game, Sizes, has_state};
 use rounds::next_rule;
@@ -56,58 +56,84 @@ pub fn take_wide(
     let mut memo = [0u32; LINES * LINE];
     let mut lists = [0u32; LISTED];
     let mut spans = [0usize; SPANS];
-    add_runs(
-        sizes, rules, &places, &fresh, work, table, &mut memo, &mut lists, &mut spans, old,
-        birthdate, late,
-    )
+    let round = Round {
+        sizes,
+        rules,
+        work,
+        places: &places,
+        fresh: &fresh,
+        old,
+        birthdate,
+        late,
+    };
+    add_runs(round, table, &mut memo, &mut lists, &mut spans)
+}
+
+// What a round is taken from: the game's sizes and rules, the old round, where the entries of each head stand in it, and the marks of
+// those of the last round, whose first words are not below `late`.
+#[derive(Clone, Copy)]
+struct Round<'a> {
+    sizes: Sizes,
+    rules: &'a [u8],
+    work: &'a [u32],
+    places: &'a [usize; PLACES],
+    fresh: &'a [u32; LETTERS],
+    old: usize,
+    birthdate: u32,
+    late: u32,
+    ghost safe: { Safe sizes rules.now },
+    ghost lettered: { 0 < sizes.letters },
+    ghost entries: { old * 3 ≤ length work.now },
+    ghost born: { birthdate < 65536 },
 }
 
 // Éloise's heads come first, then Abelard's, whose runs are the more: where the table is too small, hers alone often show it. The
 // nest is left at the first entry beyond the table, whichever head or rule gave it. Abelard's head has one job, from his first rule
 // on; Éloise's has one for each rule.
 fn add_runs(
-    sizes: Sizes,
-    rules: &[u8],
-    places: &[usize; PLACES],
-    fresh: &[u32; LETTERS],
-    work: &[u32],
+    round: Round,
     table: &mut [u32],
     memo: &mut [u32],
-    lists: &mut [u32],
-    spans: &mut [usize],
-    old: usize,
-    birthdate: u32,
-    late: u32,
+    lists: &mut [u32; LISTED],
+    spans: &mut [usize; SPANS],
 ) -> Option<usize>
-    requires { Safe sizes rules.now × (0 < sizes.letters) × (old * 3 ≤ length work.now) × (birthdate < 65536)
-        × (length lists.old ≡ 4096) × (length spans.old ≡ 512) × Zero spans.old }
-    ensures filled { (g : PushdownGame) (es : List Entry) (n : ℕ) → Held g sizes rules.now → Good g → AllRanged g es
-        → Stored n work.now old es → Stored n table.old old es → (1 < birthdate → HeldBy n (candidates g (older birthdate es) birthdate) (partly es))
-        → late ≡ late_of birthdate → Marked work.now fresh.now late old → Placing g work.now old places.now → Blank memo.old
+    requires { Zero spans.old }
+    ensures filled { let sizes = round.entry.sizes in let old = round.entry.old in let birthdate = round.entry.birthdate in
+        (g : PushdownGame) (es : List Entry) (n : ℕ) → Held g sizes round.entry.rules.now → Good g → AllRanged g es
+        → Stored n round.entry.work.now old es → Stored n table.old old es
+        → (1 < birthdate → HeldBy n (candidates g (older birthdate es) birthdate) (partly es))
+        → round.entry.late ≡ late_of birthdate → Marked round.entry.work.now round.entry.fresh.now round.entry.late old
+        → Placing g round.entry.work.now old round.entry.places.now → Blank memo.old
         → Filled n table.new (number_of n result) (growing n (candidates g es birthdate) (partly es)) }
-    ensures within { old * 3 ≤ length table.old → IfSome result (λ count. count * 3 ≤ length table.old) }
+    ensures within { round.entry.old * 3 ≤ length table.old → IfSome result (λ count. count * 3 ≤ length table.old) }
     ensures table_len_unchanged { length table.new ≡ length table.old }
 {
+    let sizes = round.sizes;
     let letters = sizes.letters as usize;
     let heads = (sizes.control as usize) * letters;
     let rulecount = sizes.rulecount;
-    let mut count = old;
+    let mut count = round.old;
     for turn in 0..heads * 2 {
         let head = turn % heads;
         let p = (head / letters) as u8;
         let a = (head % letters) as u8;
-        let mut next = first_rule(sizes, rules, p, a, heads <= turn);
+        let mut next = first_rule(sizes, round.rules, p, a, heads <= turn);
         while let Some(r) = next {
-            let job = job_of(sizes, rules, fresh, p, a, birthdate, r, old);
-            let end = runs_end(rules, places, r, old, job.last, late);
-            let start = runs_start(rules, places, r, old);
-            list_later(job, rules, places, fresh, work, lists, spans, r, start, end);
+            let task = Task {
+                job: job_of(round, p, a, r),
+                rules: round.rules,
+                work: round.work,
+                places: round.places,
+                fresh: round.fresh,
+            };
+            let end = runs_end(task, r, round.late);
+            let start = runs_start(task, r);
+            list_later(task, lists, spans, r, start, end);
+            let listed = Lists { sets: lists, spans };
             for i in start..end {
-                count = run_at(
-                    job, rules, places, fresh, work, table, memo, lists, spans, count, r, i, late,
-                )?;
+                count = run_at(task, listed, table, memo, count, r, i, round.late)?;
             }
-            next = next_rule(rules, rulecount, job.end, p, a);
+            next = next_rule(round.rules, rulecount, task.job.end, p, a);
         }
     }
     Some(count)
@@ -126,21 +152,13 @@ fn first_rule(sizes: Sizes, rules: &[u8], p: u8, a: u8, later: bool) -> Option<u
 }
 
 // The job of rule r of a head: Abelard's takes one run for each of his rules, Éloise's the rule by itself.
-fn job_of(
-    sizes: Sizes,
-    rules: &[u8],
-    fresh: &[u32; LETTERS],
-    p: u8,
-    a: u8,
-    birthdate: u32,
-    r: usize,
-    old: usize,
-) -> Job
-    requires { (birthdate < 65536) × (r < sizes.rulecount) × (sizes.rulecount * 6 ≤ length rules.now) × (sizes.rulecount ≤ max_rules) }
-    ensures value { result ≡ job_of sizes p a birthdate r old result.last }
-    ensures settled_from { SettledFrom rules.now fresh.now result.end p a result.last }
+fn job_of(round: Round, p: u8, a: u8, r: usize) -> Job
+    requires { r < round.sizes.rulecount }
+    ensures value { result ≡ job_of round.entry.sizes p a round.entry.birthdate r round.entry.old result.last }
+    ensures settled_from { SettledFrom round.entry.rules.now round.entry.fresh.now result.end p a result.last }
 {
-    let first = (p as u32) + 256 * (a as u32) + 65536 * birthdate;
+    let sizes = round.sizes;
+    let first = (p as u32) + 256 * (a as u32) + 65536 * round.birthdate;
     if has_state(sizes.abelard, p) {
         return Job {
             state: p,
@@ -148,8 +166,8 @@ fn job_of(
             first,
             field: 0,
             end: sizes.rulecount,
-            count: old,
-            last: last_fresh(rules, fresh, r, sizes.rulecount, p, a),
+            count: round.old,
+            last: last_fresh(round.rules, round.fresh, r, sizes.rulecount, p, a),
         };
     }
     Job {
@@ -158,43 +176,47 @@ fn job_of(
         first,
         field: (r as u32) + 1,
         end: r + 1,
-        count: old,
-        last: last_fresh(rules, fresh, r, r + 1, p, a),
+        count: round.old,
+        last: last_fresh(round.rules, round.fresh, r, r + 1, p, a),
     }
 }
 
 // Where a rule's runs begin and end, by their first transition: there is one, where it writes nothing. They end at once where none of
 // them can have an entry of the last round, nor one of the job's later rules.
-fn runs_start(rules: &[u8], places: &[usize; PLACES], r: usize, old: usize) -> usize
-    requires { (r + 1) * 6 ≤ length rules.now }
-    ensures { RunsStart rules.now places.now r old result }
+fn runs_start(task: Task, r: usize) -> usize
+    requires { r < task.job.end }
+    ensures { RunsStart task.entry.rules.now task.entry.places.now r task.entry.job.count result }
 {
     let at = r * Game::RULE_STRIDE;
-    if rules[at + 3] == 0 {
+    if task.rules[at + 3] == 0 {
         return 0;
     }
-    start_at(places, old, rules[at + 2], rules[at + 4])
+    start_at(
+        task.places,
+        task.job.count,
+        task.rules[at + 2],
+        task.rules[at + 4],
+    )
 }
 
-fn runs_end(
-    rules: &[u8],
-    places: &[usize; PLACES],
-    r: usize,
-    old: usize,
-    last: usize,
-    late: u32,
-) -> usize
-    requires { (r + 1) * 6 ≤ length rules.now }
-    ensures { ((0 < late) × (last ≤ r) × (result ≡ 0)) ⊎ RunsEnd rules.now places.now r old result }
+fn runs_end(task: Task, r: usize, late: u32) -> usize
+    requires { r < task.job.end }
+    ensures { ((0 < late) × (task.entry.job.last ≤ r) × (result ≡ 0))
+        ⊎ RunsEnd task.entry.rules.now task.entry.places.now r task.entry.job.count result }
 {
-    if is_settled(last, r, late) {
+    if is_settled(task.job.last, r, late) {
         return 0;
     }
     let at = r * Game::RULE_STRIDE;
-    if rules[at + 3] == 0 {
+    if task.rules[at + 3] == 0 {
         return 1;
     }
-    end_at(places, old, rules[at + 2], rules[at + 4])
+    end_at(
+        task.places,
+        task.job.count,
+        task.rules[at + 2],
+        task.rules[at + 4],
+    )
 }
 
 // Whether neither rule r nor a later one of its job can have an entry of the last round, where there was a round before.
@@ -206,25 +228,20 @@ fn is_settled(last: usize, r: usize, late: u32) -> bool
 
 // Run i of rule r, with those of the job's later rules.
 fn run_at(
-    job: Job,
-    rules: &[u8],
-    places: &[usize; PLACES],
-    fresh: &[u32; LETTERS],
-    work: &[u32],
+    task: Task,
+    lists: Lists,
     table: &mut [u32],
     memo: &mut [u32],
-    lists: &[u32],
-    spans: &[usize],
     count: usize,
     r: usize,
     i: usize,
     late: u32,
 ) -> Option<usize>
-    requires { Able job (length rules.now) (length work.now) × (r < job.end) × (i < runs_of rules.now r job.count) }
-    ensures finished { (g : PushdownGame) (old : List Entry) (birthdate n : ℕ) (s : Growing)
-        → Entered g old birthdate n job rules.now work.now table.old count memo.old s
-        → Placing g work.now job.count places.now
-        → Aging g old birthdate job fresh.now → Listed g old lists.now spans.now
+    requires { (r < task.job.end) × (i < runs_of task.rules.now r task.job.count) }
+    ensures finished { let job = task.entry.job in (g : PushdownGame) (old : List Entry) (birthdate n : ℕ) (s : Growing)
+        → Entered g old birthdate n job task.entry.rules.now task.entry.work.now table.old count memo.old s
+        → Placing g task.entry.work.now job.count task.entry.places.now
+        → Aging g old birthdate job task.entry.fresh.now → Listed g old lists.entry.sets.now lists.entry.spans.now
         → Whole g job r
         → Past birthdate n late (map (entry_at job.state job.letter birthdate job.field) (rest_runs g (older birthdate old) (rules_between g job.state job.letter r job.end) 0)) s
         → Finished g old birthdate n
@@ -235,13 +252,9 @@ fn run_at(
     ensures memo_len_unchanged { length memo.new ≡ length memo.old }
 {
     let at = r * Game::RULE_STRIDE;
-    if rules[at + 3] == 0 {
-        let passed = joined(0, rules[at + 2]);
-        return rules_after(
-            job, rules, places, fresh, work, table, memo, lists, spans, count, r, passed, late,
-        );
+    if task.rules[at + 3] == 0 {
+        let passed = joined(0, task.rules[at + 2]);
+        return rules_after(task, lists, table, memo, count, r, passed, late);
     }
-    runs_with(
-        job, rules, places, fresh, work, table, memo, lists, spans, count, r, i, 0, late,
-    )
+    runs_with(task, lists, table, memo, count, r, i, 0, late)
 }

@@ -1,8 +1,7 @@
 -- Entry i is older, or its state is joined to the states at its letter. Assumes what the contract requires.
-use borrow.Author.Rules.{rules}
 use Prim.Native.Nat.{ℕ}
 use native.Mathlib.Omega.{arith}
-use mathlib.Core.Path.{refl, ap, ◌∙◌}
+use mathlib.Core.Path.{ap, ◌∙◌}
 use lib.ListN.{get_or}
 use Rattle.game.specs.Sets.{single, union}
 use Rattle.table.specs.declared.entry.EntryWords.{EntryWords}

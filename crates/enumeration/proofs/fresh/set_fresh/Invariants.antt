@@ -1,6 +1,4 @@
 -- The entries before entry i are noted. Assumes what the contract requires.
-use mathlib.Core.Path.{◌≡◌}
-use lib.ListN.{length}
 use Rattle.enumeration.specs.Past.{Marked}
 use Rattle.enumeration.proofs.fresh.set_fresh.Given as goal
 

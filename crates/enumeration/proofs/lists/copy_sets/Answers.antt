@@ -9,8 +9,5 @@ loop-k-init c = (omega arith, none-copied _ _ _)
 pub loop-k-preserved : goal.loop-k-preserved
 loop-k-preserved c = (omega arith, next-copied _ _ _ c.loop-k.k _ c.loop-k.invariant.1 (omega (arith, c.requires)))
 
-pub shape_of-lists : goal.shape_of-lists
-shape_of-lists c = c.loop-k.invariant.1.long
-
 pub returns : goal.returns
 returns c = let same : c.loop-k.k ≡ c.args.count = omega arith in rw same at c.loop-k.invariant.1

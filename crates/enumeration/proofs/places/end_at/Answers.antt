@@ -1,4 +1,3 @@
-use native.Mathlib.Omega.{arith}
 use Rattle.enumeration.proofs.PlacesKept.{lesser-placed}
 use Rattle.enumeration.proofs.places.end_at.Goals as goal
 

@@ -1,7 +1,5 @@
 -- The places of every head before this one are written. Assumes what the contract requires.
 use Prim.Native.Nat.{◌+◌, ◌*◌, ◌<◌, ◌≤◌}
-use mathlib.Core.Path.{◌≡◌}
-use lib.ListN.{length}
 use Rattle.enumeration.specs.Places.{PlacedTo}
 use Rattle.enumeration.proofs.places.set_letters.Given as goal
 

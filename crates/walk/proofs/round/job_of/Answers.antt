@@ -4,7 +4,7 @@ use Rattle.table.specs.Table.{first_word}
 use Rattle.walk.proofs.round.job_of.Goals as goal
 
 pub last_fresh-requires : goal.last_fresh-requires
-last_fresh-requires c = (c.requires.2, c.requires.3)
+last_fresh-requires c = (c.args.round.safe.fit, c.args.round.safe.few)
 
 pub returns-then-has_state : goal.returns-then-has_state
 unfolding first_word
@@ -15,7 +15,7 @@ returns-then-has_state c =
     }
 
 pub last_fresh-requires-2 : goal.last_fresh-requires-2
-last_fresh-requires-2 c = (omega (arith, c.requires.1, c.requires.2), omega (arith, c.requires.1, c.requires.3))
+last_fresh-requires-2 c = (omega (arith, c.requires, c.args.round.safe.fit), omega (arith, c.requires, c.args.round.safe.few))
 
 pub returns : goal.returns
 unfolding first_word
