@@ -76,8 +76,8 @@ pub fn tag_of(state: u8, letter: u8, r: usize) -> u32
 // here on is in the table already.
 #[cycle(runs)]
 pub fn rules_from(
-    task: Task,
-    lists: Lists,
+    task: &Task,
+    lists: &Lists,
     table: &mut [u32],
     memo: &mut [u32],
     count: usize,
@@ -85,11 +85,11 @@ pub fn rules_from(
     union: u32,
     late: u32,
 ) -> Option<usize>
-    requires { from ≤ task.job.end }
-    ensures finished { let job = task.entry.job in (g : PushdownGame) (old : List Entry) (birthdate n : ℕ) (s : Growing)
-        → Entered g old birthdate n job task.entry.rules.now task.entry.work.now table.old count memo.old s
-        → Placing g task.entry.work.now job.count task.entry.places.now
-        → Aging g old birthdate job task.entry.fresh.now → Listed g old lists.entry.sets.now lists.entry.spans.now
+    requires { from ≤ task.now.job.end }
+    ensures finished { let job = task.now.job in (g : PushdownGame) (old : List Entry) (birthdate n : ℕ) (s : Growing)
+        → Entered g old birthdate n job task.now.rules.now task.now.work.now table.old count memo.old s
+        → Placing g task.now.work.now job.count task.now.places.now
+        → Aging g old birthdate job task.now.fresh.now → Listed g old lists.now.sets.now lists.now.spans.now
         → Late g job from → 0 < union
         → Past birthdate n late (map (entry_at job.state job.letter birthdate job.field) (rest_runs g (older birthdate old) (rules_between g job.state job.letter from job.end) union)) s
         → Finished g old birthdate n
@@ -144,22 +144,22 @@ pub fn rules_from(
 // The same from rule r on, which is listed: the ends of its runs one after another. What older entries give is not left out.
 #[cycle(runs)]
 fn rules_by(
-    task: Task,
-    lists: Lists,
+    task: &Task,
+    lists: &Lists,
     table: &mut [u32],
     memo: &mut [u32],
     count: usize,
     r: usize,
     union: u32,
 ) -> Option<usize>
-    requires { r < task.job.end }
-    ensures finished { let job = task.entry.job in (g : PushdownGame) (old : List Entry) (birthdate n : ℕ) (s : Growing)
-        → Entered g old birthdate n job task.entry.rules.now task.entry.work.now table.old count memo.old s
-        → Placing g task.entry.work.now job.count task.entry.places.now
-        → Aging g old birthdate job task.entry.fresh.now → Listed g old lists.entry.sets.now lists.entry.spans.now
-        → Whole g job r → start_of lists.entry.spans.now r < stop_of lists.entry.spans.now r (length lists.entry.sets.now)
+    requires { r < task.now.job.end }
+    ensures finished { let job = task.now.job in (g : PushdownGame) (old : List Entry) (birthdate n : ℕ) (s : Growing)
+        → Entered g old birthdate n job task.now.rules.now task.now.work.now table.old count memo.old s
+        → Placing g task.now.work.now job.count task.now.places.now
+        → Aging g old birthdate job task.now.fresh.now → Listed g old lists.now.sets.now lists.now.spans.now
+        → Whole g job r → start_of lists.now.spans.now r < stop_of lists.now.spans.now r (length lists.now.sets.now)
         → Finished g old birthdate n
-        (map (entry_at job.state job.letter birthdate job.field) (listed_runs g old job.state job.letter job.end lists.entry.sets.now lists.entry.spans.now r union))
+        (map (entry_at job.state job.letter birthdate job.field) (listed_runs g old job.state job.letter job.end lists.now.sets.now lists.now.spans.now r union))
         s table.new (number_of n result) memo.new }
     ensures within { count * 3 ≤ length table.old → IfSome result (λ filled. filled * 3 ≤ length table.old) }
     ensures table_len_unchanged { length table.new ≡ length table.old }
@@ -185,8 +185,8 @@ fn rules_by(
 // The runs of rule r that begin with entry i of the old round.
 #[cycle(runs)]
 pub fn runs_with(
-    task: Task,
-    lists: Lists,
+    task: &Task,
+    lists: &Lists,
     table: &mut [u32],
     memo: &mut [u32],
     count: usize,
@@ -195,11 +195,11 @@ pub fn runs_with(
     union: u32,
     late: u32,
 ) -> Option<usize>
-    requires { (r < task.job.end) × (i < task.job.count) }
-    ensures finished { let job = task.entry.job in (g : PushdownGame) (old : List Entry) (birthdate n : ℕ) (s : Growing)
-        → Entered g old birthdate n job task.entry.rules.now task.entry.work.now table.old count memo.old s
-        → Placing g task.entry.work.now job.count task.entry.places.now
-        → Aging g old birthdate job task.entry.fresh.now → Listed g old lists.entry.sets.now lists.entry.spans.now
+    requires { (r < task.now.job.end) × (i < task.now.job.count) }
+    ensures finished { let job = task.now.job in (g : PushdownGame) (old : List Entry) (birthdate n : ℕ) (s : Growing)
+        → Entered g old birthdate n job task.now.rules.now task.now.work.now table.old count memo.old s
+        → Placing g task.now.work.now job.count task.now.places.now
+        → Aging g old birthdate job task.now.fresh.now → Listed g old lists.now.sets.now lists.now.spans.now
         → Whole g job r
         → Past birthdate n late (map (entry_at job.state job.letter birthdate job.field) (flat_map (begin_of g (older birthdate old) job.state job.letter job.end r union) (older birthdate old))) s
         → Finished g old birthdate n
@@ -235,8 +235,8 @@ pub fn runs_with(
 // and none can come.
 #[cycle(runs)]
 pub fn rules_after(
-    task: Task,
-    lists: Lists,
+    task: &Task,
+    lists: &Lists,
     table: &mut [u32],
     memo: &mut [u32],
     count: usize,
@@ -244,11 +244,11 @@ pub fn rules_after(
     union: u32,
     late: u32,
 ) -> Option<usize>
-    requires { r < task.job.end }
-    ensures finished { let job = task.entry.job in (g : PushdownGame) (old : List Entry) (birthdate n : ℕ) (s : Growing)
-        → Entered g old birthdate n job task.entry.rules.now task.entry.work.now table.old count memo.old s
-        → Placing g task.entry.work.now job.count task.entry.places.now
-        → Aging g old birthdate job task.entry.fresh.now → Listed g old lists.entry.sets.now lists.entry.spans.now
+    requires { r < task.now.job.end }
+    ensures finished { let job = task.now.job in (g : PushdownGame) (old : List Entry) (birthdate n : ℕ) (s : Growing)
+        → Entered g old birthdate n job task.now.rules.now task.now.work.now table.old count memo.old s
+        → Placing g task.now.work.now job.count task.now.places.now
+        → Aging g old birthdate job task.now.fresh.now → Listed g old lists.now.sets.now lists.now.spans.now
         → Whole g job r → 0 < union
         → Past birthdate n late (map (entry_at job.state job.letter birthdate job.field) (sub_runs g (older birthdate old) job.state job.letter job.end r 0 union)) s
         → Finished g old birthdate n
@@ -276,8 +276,8 @@ pub fn rules_after(
 // are no more than states.
 #[cycle(runs)]
 fn pass_states(
-    task: Task,
-    lists: Lists,
+    task: &Task,
+    lists: &Lists,
     table: &mut [u32],
     memo: &mut [u32],
     count: usize,
@@ -286,11 +286,11 @@ fn pass_states(
     reached: u32,
     late: u32,
 ) -> Option<usize>
-    requires { (r < task.job.end) × (0 < set) }
-    ensures finished { let job = task.entry.job in (g : PushdownGame) (old : List Entry) (birthdate n : ℕ) (s : Growing)
-        → Entered g old birthdate n job task.entry.rules.now task.entry.work.now table.old count memo.old s
-        → Placing g task.entry.work.now job.count task.entry.places.now
-        → Aging g old birthdate job task.entry.fresh.now → Listed g old lists.entry.sets.now lists.entry.spans.now
+    requires { (r < task.now.job.end) × (0 < set) }
+    ensures finished { let job = task.now.job in (g : PushdownGame) (old : List Entry) (birthdate n : ℕ) (s : Growing)
+        → Entered g old birthdate n job task.now.rules.now task.now.work.now table.old count memo.old s
+        → Placing g task.now.work.now job.count task.now.places.now
+        → Aging g old birthdate job task.now.fresh.now → Listed g old lists.now.sets.now lists.now.spans.now
         → Whole g job r → set < 2 ^ g.states
         → Past birthdate n late (map (entry_at job.state job.letter birthdate job.field) (sub_runs g (older birthdate old) job.state job.letter job.end r set reached)) s
         → Finished g old birthdate n

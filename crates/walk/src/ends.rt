@@ -31,16 +31,16 @@ const WORDS: usize = MARKS * LINE;
 
 // Where the job of rule r is Abelard's and has runs, from `start` to `end`, its later rules are listed, and no other.
 pub fn list_later(
-    task: Task,
+    task: &Task,
     lists: &mut [u32; LISTED],
     spans: &mut [usize; SPANS],
     r: usize,
     start: usize,
     end: usize,
 )
-    requires { r < task.job.end }
-    ensures { let job = task.entry.job in (g : PushdownGame) (old : List Entry) (birthdate : ℕ) → Stands g old birthdate job task.entry.rules.now task.entry.work.now
-        → Placing g task.entry.work.now job.count task.entry.places.now → Aging g old birthdate job task.entry.fresh.now
+    requires { r < task.now.job.end }
+    ensures { let job = task.now.job in (g : PushdownGame) (old : List Entry) (birthdate : ℕ) → Stands g old birthdate job task.now.rules.now task.now.work.now
+        → Placing g task.now.work.now job.count task.now.places.now → Aging g old birthdate job task.now.fresh.now
         → Listed g old lists.old spans.old → Listed g old lists.new spans.new }
 {
     if task.job.field != 0 {
@@ -53,10 +53,10 @@ pub fn list_later(
 }
 
 // The rules of a job after rule `first`.
-fn list_rules(task: Task, lists: &mut [u32; LISTED], spans: &mut [usize; SPANS], first: usize)
-    requires { first < task.job.end }
-    ensures { let job = task.entry.job in (g : PushdownGame) (old : List Entry) (birthdate : ℕ) → Stands g old birthdate job task.entry.rules.now task.entry.work.now
-        → Placing g task.entry.work.now job.count task.entry.places.now → Aging g old birthdate job task.entry.fresh.now
+fn list_rules(task: &Task, lists: &mut [u32; LISTED], spans: &mut [usize; SPANS], first: usize)
+    requires { first < task.now.job.end }
+    ensures { let job = task.now.job in (g : PushdownGame) (old : List Entry) (birthdate : ℕ) → Stands g old birthdate job task.now.rules.now task.now.work.now
+        → Placing g task.now.work.now job.count task.now.places.now → Aging g old birthdate job task.now.fresh.now
         → Listed g old lists.new spans.new }
 {
     spans.fill(0);
@@ -84,7 +84,7 @@ fn list_rules(task: Task, lists: &mut [u32; LISTED], spans: &mut [usize; SPANS],
 
 // Rule r, its list from `room` on: where the room begins afterwards.
 fn list_rule(
-    task: Task,
+    task: &Task,
     sets: &mut [u32; SETS],
     memo: &mut [u32; WORDS],
     lists: &mut [u32; LISTED],
@@ -92,10 +92,10 @@ fn list_rule(
     r: usize,
     room: usize,
 ) -> usize
-    requires { (r < task.job.end) × (room ≤ 4096) }
-    ensures listed { let job = task.entry.job in (g : PushdownGame) (old : List Entry) (birthdate : ℕ) → Stands g old birthdate job task.entry.rules.now task.entry.work.now
-        → Placing g task.entry.work.now job.count task.entry.places.now → Aging g old birthdate job task.entry.fresh.now
-        → of_head job.state job.letter (rule_at task.entry.rules.now (r * 6) 0) ≡ true → Zero sets.old → Zero memo.old
+    requires { (r < task.now.job.end) × (room ≤ 4096) }
+    ensures listed { let job = task.now.job in (g : PushdownGame) (old : List Entry) (birthdate : ℕ) → Stands g old birthdate job task.now.rules.now task.now.work.now
+        → Placing g task.now.work.now job.count task.now.places.now → Aging g old birthdate job task.now.fresh.now
+        → of_head job.state job.letter (rule_at task.now.rules.now (r * 6) 0) ≡ true → Zero sets.old → Zero memo.old
         → Bounded spans.old room → Listed g old lists.old spans.old → Listed g old lists.new spans.new }
     ensures upper_bound { (result ≤ 4096) × (Bounded spans.old room → Bounded spans.new result)
         × (Zero sets.old → Zero sets.new) × (Zero memo.old → Zero memo.new) }
@@ -115,11 +115,16 @@ fn list_rule(
 }
 
 // The ends of the runs of rule r as entries of an area that has none: how many; none, where there are more than it can hold.
-fn find_ends(task: Task, sets: &mut [u32; SETS], memo: &mut [u32; WORDS], r: usize) -> Option<usize>
-    requires { r < task.job.end }
-    ensures filled { let job = task.entry.job in (g : PushdownGame) (old : List Entry) (birthdate m : ℕ) → Stands g old birthdate job task.entry.rules.now task.entry.work.now
-        → Placing g task.entry.work.now job.count task.entry.places.now → Aging g old birthdate job task.entry.fresh.now
-        → of_head job.state job.letter (rule_at task.entry.rules.now (r * 6) 0) ≡ true → get_or task.entry.rules.now (r * 6 + 3) 0 ≡ 2
+fn find_ends(
+    task: &Task,
+    sets: &mut [u32; SETS],
+    memo: &mut [u32; WORDS],
+    r: usize,
+) -> Option<usize>
+    requires { r < task.now.job.end }
+    ensures filled { let job = task.now.job in (g : PushdownGame) (old : List Entry) (birthdate m : ℕ) → Stands g old birthdate job task.now.rules.now task.now.work.now
+        → Placing g task.now.work.now job.count task.now.places.now → Aging g old birthdate job task.now.fresh.now
+        → of_head job.state job.letter (rule_at task.now.rules.now (r * 6) 0) ≡ true → get_or task.now.rules.now (r * 6 + 3) 0 ≡ 2
         → Stored m sets.old 0 [] → Blank memo.old
         → Filled m sets.new (number_of m result) (growing m (map (entry_at job.state job.letter birthdate (r + 1)) (rule_ends g old (get_or g.rules r no_rule))) (partly [])) }
     ensures within { IfSome result (λ count. count ≤ 1024) }
@@ -153,7 +158,7 @@ fn find_ends(task: Task, sets: &mut [u32; SETS], memo: &mut [u32; WORDS], r: usi
     )
         ..end
     {
-        count = runs_with(alone, unlisted, sets, memo, count, r, i, 0, 0)?;
+        count = runs_with(&alone, &unlisted, sets, memo, count, r, i, 0, 0)?;
     }
     Some(count)
 }

@@ -126,12 +126,12 @@ fn add_runs(
                 places: round.places,
                 fresh: round.fresh,
             };
-            let end = runs_end(task, r, round.late);
-            let start = runs_start(task, r);
-            list_later(task, lists, spans, r, start, end);
+            let end = runs_end(&task, r, round.late);
+            let start = runs_start(&task, r);
+            list_later(&task, lists, spans, r, start, end);
             let listed = Lists { sets: lists, spans };
             for i in start..end {
-                count = run_at(task, listed, table, memo, count, r, i, round.late)?;
+                count = run_at(&task, &listed, table, memo, count, r, i, round.late)?;
             }
             next = next_rule(round.rules, rulecount, task.job.end, p, a);
         }
@@ -183,9 +183,9 @@ fn job_of(round: Round, p: u8, a: u8, r: usize) -> Job
 
 // Where a rule's runs begin and end, by their first transition: there is one, where it writes nothing. They end at once where none of
 // them can have an entry of the last round, nor one of the job's later rules.
-fn runs_start(task: Task, r: usize) -> usize
-    requires { r < task.job.end }
-    ensures { RunsStart task.entry.rules.now task.entry.places.now r task.entry.job.count result }
+fn runs_start(task: &Task, r: usize) -> usize
+    requires { r < task.now.job.end }
+    ensures { RunsStart task.now.rules.now task.now.places.now r task.now.job.count result }
 {
     let at = r * Game::RULE_STRIDE;
     if task.rules[at + 3] == 0 {
@@ -199,10 +199,10 @@ fn runs_start(task: Task, r: usize) -> usize
     )
 }
 
-fn runs_end(task: Task, r: usize, late: u32) -> usize
-    requires { r < task.job.end }
-    ensures { ((0 < late) × (task.entry.job.last ≤ r) × (result ≡ 0))
-        ⊎ RunsEnd task.entry.rules.now task.entry.places.now r task.entry.job.count result }
+fn runs_end(task: &Task, r: usize, late: u32) -> usize
+    requires { r < task.now.job.end }
+    ensures { ((0 < late) × (task.now.job.last ≤ r) × (result ≡ 0))
+        ⊎ RunsEnd task.now.rules.now task.now.places.now r task.now.job.count result }
 {
     if is_settled(task.job.last, r, late) {
         return 0;
@@ -228,8 +228,8 @@ fn is_settled(last: usize, r: usize, late: u32) -> bool
 
 // Run i of rule r, with those of the job's later rules.
 fn run_at(
-    task: Task,
-    lists: Lists,
+    task: &Task,
+    lists: &Lists,
     table: &mut [u32],
     memo: &mut [u32],
     count: usize,
@@ -237,11 +237,11 @@ fn run_at(
     i: usize,
     late: u32,
 ) -> Option<usize>
-    requires { (r < task.job.end) × (i < runs_of task.rules.now r task.job.count) }
-    ensures finished { let job = task.entry.job in (g : PushdownGame) (old : List Entry) (birthdate n : ℕ) (s : Growing)
-        → Entered g old birthdate n job task.entry.rules.now task.entry.work.now table.old count memo.old s
-        → Placing g task.entry.work.now job.count task.entry.places.now
-        → Aging g old birthdate job task.entry.fresh.now → Listed g old lists.entry.sets.now lists.entry.spans.now
+    requires { (r < task.now.job.end) × (i < runs_of task.now.rules.now r task.now.job.count) }
+    ensures finished { let job = task.now.job in (g : PushdownGame) (old : List Entry) (birthdate n : ℕ) (s : Growing)
+        → Entered g old birthdate n job task.now.rules.now task.now.work.now table.old count memo.old s
+        → Placing g task.now.work.now job.count task.now.places.now
+        → Aging g old birthdate job task.now.fresh.now → Listed g old lists.now.sets.now lists.now.spans.now
         → Whole g job r
         → Past birthdate n late (map (entry_at job.state job.letter birthdate job.field) (rest_runs g (older birthdate old) (rules_between g job.state job.letter r job.end) 0)) s
         → Finished g old birthdate n

@@ -31,19 +31,19 @@ use Prim.Native.Nat.{ℕ, ◌<◌}
 use Rattle.enumeration.proofs.runs.+runs.Given as goal
 
 abbrev pub decreases-pass_states : goal.decreases-pass_states
-decreases-pass_states l = (l.task.job.end - l.r) * 4 + 1
+decreases-pass_states l = (l.task.now.job.end - l.r) * 4 + 1
 
 abbrev pub decreases-rules_after : goal.decreases-rules_after
-decreases-rules_after l = (l.task.job.end - l.r) * 4
+decreases-rules_after l = (l.task.now.job.end - l.r) * 4
 
 abbrev pub decreases-rules_by : goal.decreases-rules_by
-decreases-rules_by l = (l.task.job.end - l.r) * 4 + 2
+decreases-rules_by l = (l.task.now.job.end - l.r) * 4 + 2
 
 abbrev pub decreases-rules_from : goal.decreases-rules_from
-decreases-rules_from l = (l.task.job.end - l.from) * 4 + 3
+decreases-rules_from l = (l.task.now.job.end - l.from) * 4 + 3
 
 abbrev pub decreases-runs_with : goal.decreases-runs_with
-decreases-runs_with l = (l.task.job.end - l.r) * 4 + 2
+decreases-runs_with l = (l.task.now.job.end - l.r) * 4 + 2
 
 abbrev pub invariant-pass_states-loop-found : goal.invariant-pass_states-loop-found
 invariant-pass_states-loop-found l = (length l.table ≡ length l.initial.table) × (length l.memo ≡ length l.initial.memo) × (l.count * 3 ≤ length l.initial.table → l.filled * 3 ≤ length l.initial.table) × Bounded l.lefts l.unions l.nexts l.limits l.task.job.count l.depth l.left l.i × ((g : PushdownGame) (old : List Entry) (birthdate n : ℕ) (s : Growing) → Entered g old birthdate n l.task.job l.task.rules.now l.task.work.now l.initial.table l.count l.initial.memo s → Placing g l.task.work.now l.task.job.count l.task.places.now → Aging g old birthdate l.task.job l.task.fresh.now → Listed g old l.lists.sets.now l.lists.spans.now → Whole g l.task.job l.r → l.set < 2 ^ g.states → Past birthdate n l.late (earlier g old birthdate n l.task.job l.task.rules.now l.task.work.now l.r l.set l.reached) s → Walking g old birthdate n l.task.job l.task.rules.now l.task.work.now l.r s l.set l.reached l.lefts l.unions l.nexts l.limits l.depth l.left l.union l.i l.limit l.table l.filled l.memo)

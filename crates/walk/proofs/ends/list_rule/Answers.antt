@@ -26,7 +26,7 @@ returns-in_default c =
 pub keep_list-after-requires : goal.keep_list-after-requires
 keep_list-after-requires c =
     let long : length c.find_ends-found.new.sets ≡ 3072 = search rules in
-    (omega (arith, c.in-Some.ensures.within), omega (arith, c.args.task.able.few, c.requires.0), c.requires.1)
+    (omega (arith, c.in-Some.ensures.within), omega (arith, c.args.task.now.able.few, c.requires.0), c.requires.1)
 
 pub returns : goal.returns
 returns c =
@@ -37,7 +37,7 @@ returns c =
       listed =
           λ g old b stands pl ag hit zs zm bd li.
           let f = found _ _ b _ _ 1024 _ _ (c.in-Some.ensures.filled g old b 1024 stands pl ag hit c.if-task-r-ne2.false (zero-stored 1024 _ sets zs) (λ k. zm (k * 3))) c.in-Some.ensures.within in
-          listed_more g old _ _ _ _ _ _ _ _ _ li bd (omega (arith, c.args.task.able.few, c.requires.0)) 1024 f.entries f.stored f.are f.every c.keep_list-after.ensures;
+          listed_more g old _ _ _ _ _ _ _ _ _ li bd (omega (arith, c.args.task.now.able.few, c.requires.0)) 1024 f.entries f.stored f.are f.every c.keep_list-after.ensures;
       upper_bound =
-          (omega (arith, c.keep_list-after.ensures.within), λ bd. bounded-more _ _ _ _ _ _ _ _ _ bd (omega (arith, c.args.task.able.few, c.requires.0)) c.keep_list-after.ensures, λ z. zeroed _ _ (c.fill-2.ensures.after (λ y e. e)), λ z. zeroed _ _ (c.fill.ensures.after (λ y e. e)));
+          (omega (arith, c.keep_list-after.ensures.within), λ bd. bounded-more _ _ _ _ _ _ _ _ _ bd (omega (arith, c.args.task.now.able.few, c.requires.0)) c.keep_list-after.ensures, λ z. zeroed _ _ (c.fill-2.ensures.after (λ y e. e)), λ z. zeroed _ _ (c.fill.ensures.after (λ y e. e)));
     }
