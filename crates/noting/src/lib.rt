@@ -6,6 +6,7 @@
 #![tactic(auto)]
 
 mod closing;
+mod marks;
 mod masks;
 mod offers;
 mod readers;
@@ -13,6 +14,7 @@ mod signs;
 mod targets;
 
 pub use closing::close_heads;
+pub use marks::Marks;
 pub use masks::set_masks;
 pub use offers::give;
 pub use readers::{find_active, mark_rules};

@@ -4,3 +4,4 @@ pub mod RuleLaws
 pub mod Resting
 pub mod RuleLinks
 pub mod HeadSteps
+pub mod Kept

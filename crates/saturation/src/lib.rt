@@ -7,10 +7,12 @@
 #![tactic(auto)]
 
 mod heads;
+mod kept;
 mod linking;
 mod round;
 mod rules;
 
+pub use kept::{Kept, Rules};
 pub use linking::link;
 pub use round::take_round;
 pub use rules::Counts;

@@ -32,7 +32,7 @@ use Rattle.noting.specs.Marks.{Dead}
 use Rattle.unions.specs.ElementsOf.{ElementsOf, HeldTargets}
 use Rattle.unions.specs.Ending.{RuleFits}
 use Rattle.noting.specs.RoundZero.{Started, Bare}
-use Rattle.saturation.specs.Ground.{Areas}
+use Rattle.saturation.specs.Kept.{Room}
 use Rattle.saturation.specs.Resting.{Resting}
 use Rattle.solver.specs.Given.{Given}
 use Rattle.solver.specs.Rooms.{Numbers, Rooms, Blank, Blanks, Few, Narrow}
@@ -50,46 +50,27 @@ pub record Bounded (sizes : Sizes) (rules targets : List ℕ) : Type 0 where
   pub targets-fit : sizes.targetcount * 3 ≤ length targets
 
 -- the heads' families have room
-pub heads-in : {heads n : ℕ} {all new added ends keys rests hints : List ℕ} → Rooms heads n all new added ends keys rests hints → (m : ℕ) → m ≡ length all → heads * n ≤ m
-heads-in {heads} {n} {keys = keys} ro m e = omega (arith, e, ro.area, mul-le-mul_right n (more heads (length keys)))
+pub room-in : {heads n rulecount words lines given ends : ℕ} → Room heads n rulecount words lines given ends → heads * n ≤ words
+room-in {heads} {n} {lines = lines} ro = omega (arith, ro.area, mul-le-mul_right n (more heads lines))
   where
     more : (x y : ℕ) → x ≤ x + y
     more x y = omega arith
 
-pub rooms-on : {heads n : ℕ} {all new added ends keys rests hints all' new' : List ℕ} → Rooms heads n all new added ends keys rests hints → length all' ≡ length all
-    → length new' ≡ length new → Rooms heads n all' new' added ends keys rests hints
-rooms-on ro la ln =
-    record {
-      few = ro.few;
-      words = ro.words;
-      area = rw la ro.area;
-      alike = ln ∙ ro.alike ∙ sym la;
-      giving = ro.giving;
-      ended = ro.ended;
-      some = ro.some;
-      most = ro.most;
-      same = ro.same;
-      hinted = ro.hinted;
-      hinting = ro.hinting;
-    }
-
--- areas for families of a words in all, of at most w words each, and for k lines
-pub rooms-of : (w a k h : ℕ) {heads n : ℕ} {all new added ends keys rests hints : List ℕ} → heads ≤ 2048 → n ≤ w → w ≤ 16 → heads * n ≤ a → length keys ≡ k
-    → length all ≡ a + k * w → length new ≡ a + k * w → length added ≡ a → length ends ≡ 256 * w → length rests ≡ k → length hints ≡ h → 10 ≤ k → k ≤ 2048
-    → 0 < h → h ≤ 65536 → Rooms heads n all new added ends keys rests hints
-rooms-of w a k h {heads} {n} few words most fit lk la ln ld le lr lh some many hinted hinting =
+-- arrays for families of a words in all, of at most w words each, and for k lines
+pub rooms-of : (w a k h : ℕ) {heads n words given ends : ℕ} → heads ≤ 2048 → n ≤ w → w ≤ 16 → heads * n ≤ a → words ≡ a + k * w → given ≡ a → ends ≡ 256 * w → 10 ≤ k → k ≤ 2048
+    → 0 < h → h ≤ 65536 → a ≤ 10240 → Rooms heads n words k h given ends
+rooms-of w a k h {heads} {n} few words most fit la ld le some many hinted hinting small =
     record {
       few = few;
-      words = omega (arith, words, most);
-      area = rw (lk, la) (omega (arith, add-mul heads k n, fit, mul-le-mul_left k words));
-      alike = ln ∙ sym la;
+      width = omega (arith, words, most);
+      area = omega (arith, la, add-mul heads k n, fit, mul-le-mul_left k words);
       giving = omega (arith, ld, fit);
       ended = omega (arith, le, words);
-      some = omega (arith, lk, some);
-      most = omega (arith, lk, many);
-      same = lr ∙ sym lk;
-      hinted = omega (arith, lh, hinted);
-      hinting = omega (arith, lh, hinting);
+      some = some;
+      most = many;
+      hinted = hinted;
+      hinting = hinting;
+      memory = (omega (arith, la, mul-le-mul many most, small), omega (arith, ld, small), omega (arith, le, most));
     }
 
 -- zeros have no sets
@@ -227,38 +208,8 @@ module _ {g : PushdownGame} {sizes : Sizes} {rules targets : List ℕ} (given : 
       omega (arith, ap (λ (x : Rule). x.top) bytes, sound.top, lettered, bounded.letters-few),
     )
 
-  pub areas-of : {elements heads n size : ℕ} {states numbers all new added ends keys rests hints fresh alive log raising : List ℕ} → heads ≡ sizes.states * sizes.letters
-      → Numbers elements states numbers sizes.letters heads → Rooms heads n all new added ends keys rests hints → 512 ≤ length raising → length fresh ≡ 64 → length alive ≡ 64
-      → ((c : ℕ) → c < 64 → get_or alive c 0 < 1024) → size * 3 ≤ length log → size ≤ 2048
-      → Areas sizes.letters heads n sizes.rulecount size rules states numbers all new keys rests hints fresh alive ends added log raising
-  areas-of {heads = heads} {n = n} eh nu ro lr lf la small ll ls =
-      record {
-        fits =
-            record {
-              long = nu.long;
-              rows = nu.rows;
-              few = ro.few;
-              words = ro.words;
-              area = ro.area;
-              some = ro.some;
-              most = ro.most;
-              same = ro.same;
-              hinted = ro.hinted;
-              hints = ro.hinting;
-            };
-        few = bounded.letters-few;
-        alike = ro.alike;
-        masked = record { states = nu.wide; small = nu.small; news = lf; lives = la; few = small };
-        masks = lr;
-        ruled = λ r l. rule_fits r l heads eh;
-        headed = λ r l. head-fits r l heads eh;
-        owned = λ r l. head_bytes r l;
-        some = bounded.rules-few;
-        ended = omega (arith, ro.ended, mul-le-mul_right n bounded.rules-few);
-        giving = ro.giving;
-        noting = ll;
-        most = ls;
-      }
+  pub room-of : {heads n words lines hints given ends : ℕ} → Rooms heads n words lines hints given ends → Room heads n sizes.rulecount words lines given ends
+  room-of {n = n} ro = record { area = ro.area; giving = ro.giving; ended = omega (arith, ro.ended, mul-le-mul_right n bounded.rules-few) }
 
   no-head : (q a z : ℕ) → Head [] q a z → ⊥
   no-head q a z m = Memᴰ.not-nil (sets_of-in [] q a m).1

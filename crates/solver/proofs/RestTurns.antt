@@ -11,13 +11,15 @@ use Rattle.game.specs.Limits.{max_rounds}
 use Rattle.game.specs.Game.{PushdownGame}
 use Rattle.game.specs.GoodGame.{Good}
 use Rattle.game.specs.Outcome.{refused}
-use Rattle.game.specs.declared.game.Sizes.{Sizes}
+use Rattle.noting.specs.declared.marks.Marks.{Marks}
+use Rattle.saturation.specs.declared.kept.Rules.{Rules}
+use Rattle.saturation.specs.declared.kept.Kept.{Kept}
 use Rattle.table.specs.Table.{Entry, table_words}
 use Rattle.rounds.specs.Rounds.{round_zero, next_round, settled}
 use Rattle.rounds.specs.RoundLaws.{round_table}
 use Rattle.saturation.specs.RuleLinks.{Linked}
 use Rattle.noting.specs.Signs.{Reads}
-use Rattle.saturation.specs.Ground.{Areas}
+use Rattle.saturation.specs.Kept.{Room, Rested}
 use Rattle.saturation.specs.Resting.{Resting, RoundTaken}
 use Rattle.unions.specs.Ranks.{Noted, Sized}
 use Rattle.solver.specs.Leaving.{leaving, called, solved_with}
@@ -163,91 +165,34 @@ module _ {el : List ℕ} {g : PushdownGame} {m n heads abelard letters rulecount
         })
         turn)
 
--- The loop's turns: the table is as it was, the areas have their lengths, and they rest at round i.
-pub record Turning (sizes : Sizes) (heads n first : ℕ) (rules states numbers firsts nexts raising readers table₀ log₀ all₀ new₀ keys₀ rests₀ hints₀ fresh₀ alive₀ ends₀ added₀ news₀ : List ℕ)
-    (table log all new keys rests hints fresh alive ends added news gains stirred held : List ℕ) (size entries lines i : ℕ) : Type 0 where
+-- The loop's turns: the table is as it was, the log has its length, and what is kept rests at round i.
+pub record Turning {W L H G E : ℕ} (rules : Rules) (first : ℕ) (table₀ log₀ new₀ : List ℕ) (marks₀ : Marks) (kept₀ : Kept W L H G E)
+    (table log new : List ℕ) (marks : Marks) (kept : Kept W L H G E) (size entries i : ℕ) : Type 0 where
   pub most : i ≤ max_rounds
   pub sized : size ≡ length table₀ / 3
   pub tabled : table ≡ table₀
   pub room : entries ≤ size
-  pub lined : lines ≤ length keys₀
-  pub few : (c : ℕ) → c < 64 → get_or alive c 0 < 1024
   pub logs : length log ≡ length log₀
-  pub areas : length all ≡ length all₀
-  pub newer : length new ≡ length new₀
-  pub keyed : length keys ≡ length keys₀
-  pub resting : length rests ≡ length rests₀
-  pub hinting : length hints ≡ length hints₀
-  pub freshes : length fresh ≡ length fresh₀
-  pub alives : length alive ≡ length alive₀
-  pub ending : length ends ≡ length ends₀
-  pub adds : length added ≡ length added₀
-  pub tidings : length news ≡ length news₀
-  pub gaining : length gains ≡ 32
-  pub stirring : length stirred ≡ 32
-  pub holding : length held ≡ 4
-  pub gone : (el : List ℕ) (g : PushdownGame) (m : ℕ) → sizes.control ≡ g.control → sizes.states ≡ g.states → Reads rules sizes.rulecount readers
-      → Linked rules sizes.rulecount sizes.letters sizes.control firsts nexts → table₀ ≡ replicate (m * 3) 0
-      → Resting el g n heads [] (round_zero g) 0 sizes.abelard sizes.letters sizes.rulecount rules states numbers raising all₀ new₀ keys₀ rests₀ fresh₀ alive₀ ends₀ added₀ log₀ news₀ (replicate 4 0) 0 first
-      → Rests el g m n heads sizes.abelard sizes.letters sizes.rulecount rules states numbers raising all new keys rests fresh alive ends added log news held lines entries i
-
--- areas of the same lengths, with small masks, serve as well
-pub areas-still : {letters heads n rulecount size : ℕ} {rules states numbers all new keys rests hints fresh alive ends added log raising all' new' keys' rests' hints' fresh' alive' ends' added' log' : List ℕ}
-    → Areas letters heads n rulecount size rules states numbers all new keys rests hints fresh alive ends added log raising
-    → length all' ≡ length all → length new' ≡ length new → length keys' ≡ length keys → length rests' ≡ length rests → length hints' ≡ length hints → length fresh' ≡ length fresh
-    → length alive' ≡ length alive → ((c : ℕ) → c < 64 → get_or alive' c 0 < 1024) → length ends' ≡ length ends → length added' ≡ length added
-    → length log' ≡ length log
-    → Areas letters heads n rulecount size rules states numbers all' new' keys' rests' hints' fresh' alive' ends' added' log' raising
-areas-still {heads = heads} {n = n} {size = size} a la ln lk lr lh lf lv small le ld ll =
-    record {
-      fits =
-          record {
-            long = a.fits.long;
-            rows = a.fits.rows;
-            few = a.fits.few;
-            words = a.fits.words;
-            area = rw (la, lk) a.fits.area;
-            some = omega (arith, a.fits.some, lk);
-            most = omega (arith, a.fits.most, lk);
-            same = lr ∙ a.fits.same ∙ sym lk;
-            hinted = omega (arith, a.fits.hinted, lh);
-            hints = omega (arith, a.fits.hints, lh);
-          };
-      few = a.few;
-      alike = ln ∙ a.alike ∙ sym la;
-      masked =
-          record {
-            states = a.masked.states;
-            small = a.masked.small;
-            news = lf ∙ a.masked.news;
-            lives = lv ∙ a.masked.lives;
-            few = small;
-          };
-      masks = a.masks;
-      ruled = a.ruled;
-      headed = a.headed;
-      owned = a.owned;
-      some = a.some;
-      ended = omega (arith, a.ended, le);
-      giving = omega (arith, a.giving, ld);
-      noting = omega (arith, a.noting, ll);
-      most = a.most;
-    }
+  pub gone : (el : List ℕ) (g : PushdownGame) (m : ℕ) → rules.sizes.control ≡ g.control → rules.sizes.states ≡ g.states → Reads rules.bytes.now rules.sizes.rulecount rules.readers.now
+      → Linked rules.bytes.now rules.sizes.rulecount rules.frame.letters rules.sizes.control rules.firsts.now rules.nexts.now → table₀ ≡ replicate (m * 3) 0
+      → Rested el g [] (round_zero g) 0 rules new₀ marks₀ kept₀ log₀ kept₀.families.count first
+      → Rests el g m rules.frame.n rules.frame.heads rules.sizes.abelard rules.frame.letters rules.sizes.rulecount rules.bytes.now rules.frame.states rules.frame.numbers
+      rules.frame.raising kept.families.all new kept.families.keys kept.families.rests marks.fresh marks.alive kept.ends kept.added log marks.news marks.held kept.families.count entries i
 
 -- what writing the table needs
-pub sized-at : {letters heads n rulecount size : ℕ} {rules states numbers all new keys rests hints fresh alive ends added log raising all' new' log' : List ℕ}
-    → Areas letters heads n rulecount size rules states numbers all new keys rests hints fresh alive ends added log raising → (count : ℕ) → count ≤ size
-    → length all' ≡ length all → length new' ≡ length new → length log' ≡ length log → Sized letters heads n count states all' new' log'
-sized-at {heads = heads} {n = n} {keys = keys} a count l la ln ll =
-    let many = mul-le-mul_right n (more heads (length keys)) in
+pub sized-at : {W L H G E : ℕ} (rules : Rules) (kept : Kept W L H G E) → Room rules.frame.heads rules.frame.n rules.sizes.rulecount W L G E → (count size : ℕ) → count ≤ size
+    → (new log : List ℕ) → length new ≡ W → size * 3 ≤ length log
+    → Sized rules.frame.letters rules.frame.heads rules.frame.n count rules.frame.states kept.families.all new log
+sized-at {L = L} rules kept room count size l new log ln ll =
+    let many = mul-le-mul_right rules.frame.n (more rules.frame.heads L) in
     record {
-      long = a.fits.long;
-      few = a.few;
-      rows = a.fits.few;
-      words = a.fits.words;
-      area = omega (arith, la, a.fits.area, many);
-      room = omega (arith, ln, a.alike, a.fits.area, many);
-      ends = omega (arith, ll, a.noting, l);
+      long = rules.frame.long;
+      few = rules.frame.few;
+      rows = rules.frame.most;
+      words = rules.frame.words;
+      area = omega (arith, kept.families.area, room.area, many);
+      room = omega (arith, ln, room.area, many);
+      ends = omega (arith, ll, l);
     }
   where
     more : (x y : ℕ) → x ≤ x + y

@@ -12,19 +12,19 @@ pub record Numbers (elements : ℕ) (states numbers : List ℕ) (letters heads :
   pub small : (q : ℕ) → q < 32 → get_or numbers q 0 < 1024
   pub rows : (i : ℕ) → i < 16 → get_or states i 0 * letters + letters ≤ heads
 
--- the areas have room for the families of all heads, of as many lines as there are keys, and of 256 rules
-pub record Rooms (heads n : ℕ) (all new added ends keys rests hints : List ℕ) : Type 0 where
+-- arrays of so many words, lines, hints, words that are given, and words of ends have room for the families of all heads, of as many
+-- lines, and of 256 rules
+pub record Rooms (heads n words lines hints given ends : ℕ) : Type 0 where
   pub few : heads ≤ 2048
-  pub words : n ≤ 16
-  pub area : (heads + length keys) * n ≤ length all
-  pub alike : length new ≡ length all
-  pub giving : heads * n ≤ length added
-  pub ended : 256 * n ≤ length ends
-  pub some : 10 ≤ length keys
-  pub most : length keys ≤ 2048
-  pub same : length rests ≡ length keys
-  pub hinted : 0 < length hints
-  pub hinting : length hints ≤ 65536
+  pub width : n ≤ 16
+  pub area : (heads + lines) * n ≤ words
+  pub giving : heads * n ≤ given
+  pub ended : 256 * n ≤ ends
+  pub some : 10 ≤ lines
+  pub most : lines ≤ 2048
+  pub hinted : 0 < hints
+  pub hinting : hints ≤ 65536
+  pub memory : (words ≤ 65536) × (given ≤ 65536) × (ends ≤ 65536)
 
 -- no set is anywhere in an area
 abbrev pub Blank : List ℕ → Type 0

@@ -16,7 +16,8 @@ use unions::Numbering;
 // How many heads of control states there may be.
 const ROWS: usize = 1536;
 
-// Round 0 and the others, by the way that serves the game.
+// Round 0 and the others, by the way that serves the game: over families of one word, in arrays for 256 heads and 640 lines; of 1,024 words,
+// and 640 lines of four; of 10,240 words, and 256 lines of sixteen.
 pub fn rounds_by(
     sizes: Sizes,
     rules: &[u8],
@@ -35,22 +36,19 @@ pub fn rounds_by(
         return walk_rounds(sizes, rules, targets, table, work);
     };
     let heads = (sizes.states as usize) * (sizes.letters as usize);
-    let states = numbering.states;
-    let numbers = numbering.numbers;
-    let elements = numbering.count;
     if does_fit(heads, n, 1, 256) {
-        return few_rounds(
-            sizes, rules, targets, elements, &states, &numbers, heads, n, table, work,
+        return rounds_in::<896, 640, 2048, 256, 256, 256>(
+            sizes, rules, targets, numbering, heads, n, table, work,
         );
     }
     if does_fit(heads, n, 4, 1024) {
-        return some_rounds(
-            sizes, rules, targets, elements, &states, &numbers, heads, n, table, work,
+        return rounds_in::<3584, 640, 6144, 1024, 1024, 1024>(
+            sizes, rules, targets, numbering, heads, n, table, work,
         );
     }
     if does_fit(heads, n, 16, 10240) {
-        return many_rounds(
-            sizes, rules, targets, elements, &states, &numbers, heads, n, table, work,
+        return rounds_in::<14336, 256, 8192, 10240, 4096, ROWS>(
+            sizes, rules, targets, numbering, heads, n, table, work,
         );
     }
     walk_rounds(sizes, rules, targets, table, work)
@@ -103,151 +101,4 @@ fn does_fit(heads: usize, n: usize, words: usize, area: usize) -> bool
         return false;
     }
     heads * n <= area
-}
-
-// In areas for families of one word, of 256 heads and 640 lines.
-fn few_rounds(
-    sizes: Sizes,
-    rules: &[u8],
-    targets: &[u32],
-    elements: usize,
-    states: &[u8],
-    numbers: &[usize],
-    heads: usize,
-    n: usize,
-    table: &mut [u32],
-    work: &mut [u32],
-) -> Result<Solved, Refusal>
-    requires { ((g : PushdownGame) × Given g sizes rules.now targets.now) × (length table.old ≡ length work.old) × (length table.old ≤ 6144)
-        × (heads ≡ sizes.states * sizes.letters) × Numbers elements states.now numbers.now sizes.letters heads × (heads ≤ 2048) × (n ≤ 1) × (heads * n ≤ 256) × (heads ≤ 256) }
-    ensures { (g : PushdownGame) (m : ℕ) → Given g sizes rules.now targets.now → table.old ≡ replicate (m * 3) 0
-        → Few g elements n states.now numbers.now
-        → called result table.new work.new ≡ leaving (solving_game g m) (length table.old) (length work.old) }
-{
-    let mut all = [0u64; 896];
-    let mut new = [0u64; 896];
-    let mut added = [0u64; 256];
-    let mut ends = [0u64; 256];
-    let mut keys = [0u32; 640];
-    let mut rests = [0u32; 640];
-    let mut hints = [0u32; 2048];
-    let mut firsts = [0usize; 256];
-    rounds_in(
-        sizes,
-        rules,
-        targets,
-        elements,
-        states,
-        numbers,
-        heads,
-        n,
-        table,
-        work,
-        &mut all,
-        &mut new,
-        &mut added,
-        &mut ends,
-        &mut keys,
-        &mut rests,
-        &mut hints,
-        &mut firsts,
-    )
-}
-
-// In areas for families of 1,024 words, and 640 lines of four.
-fn some_rounds(
-    sizes: Sizes,
-    rules: &[u8],
-    targets: &[u32],
-    elements: usize,
-    states: &[u8],
-    numbers: &[usize],
-    heads: usize,
-    n: usize,
-    table: &mut [u32],
-    work: &mut [u32],
-) -> Result<Solved, Refusal>
-    requires { ((g : PushdownGame) × Given g sizes rules.now targets.now) × (length table.old ≡ length work.old) × (length table.old ≤ 6144)
-        × (heads ≡ sizes.states * sizes.letters) × Numbers elements states.now numbers.now sizes.letters heads × (heads ≤ 2048) × (n ≤ 4) × (heads * n ≤ 1024) × (heads ≤ 1024) }
-    ensures { (g : PushdownGame) (m : ℕ) → Given g sizes rules.now targets.now → table.old ≡ replicate (m * 3) 0
-        → Few g elements n states.now numbers.now
-        → called result table.new work.new ≡ leaving (solving_game g m) (length table.old) (length work.old) }
-{
-    let mut all = [0u64; 3584];
-    let mut new = [0u64; 3584];
-    let mut added = [0u64; 1024];
-    let mut ends = [0u64; 1024];
-    let mut keys = [0u32; 640];
-    let mut rests = [0u32; 640];
-    let mut hints = [0u32; 6144];
-    let mut firsts = [0usize; 1024];
-    rounds_in(
-        sizes,
-        rules,
-        targets,
-        elements,
-        states,
-        numbers,
-        heads,
-        n,
-        table,
-        work,
-        &mut all,
-        &mut new,
-        &mut added,
-        &mut ends,
-        &mut keys,
-        &mut rests,
-        &mut hints,
-        &mut firsts,
-    )
-}
-
-// In areas for families of 10,240 words, and 256 lines of sixteen.
-fn many_rounds(
-    sizes: Sizes,
-    rules: &[u8],
-    targets: &[u32],
-    elements: usize,
-    states: &[u8],
-    numbers: &[usize],
-    heads: usize,
-    n: usize,
-    table: &mut [u32],
-    work: &mut [u32],
-) -> Result<Solved, Refusal>
-    requires { ((g : PushdownGame) × Given g sizes rules.now targets.now) × (length table.old ≡ length work.old) × (length table.old ≤ 6144)
-        × (heads ≡ sizes.states * sizes.letters) × Numbers elements states.now numbers.now sizes.letters heads × (heads ≤ 2048) × (n ≤ 16) × (heads * n ≤ 10240) }
-    ensures { (g : PushdownGame) (m : ℕ) → Given g sizes rules.now targets.now → table.old ≡ replicate (m * 3) 0
-        → Few g elements n states.now numbers.now
-        → called result table.new work.new ≡ leaving (solving_game g m) (length table.old) (length work.old) }
-{
-    let mut all = [0u64; 14336];
-    let mut new = [0u64; 14336];
-    let mut added = [0u64; 10240];
-    let mut ends = [0u64; 4096];
-    let mut keys = [0u32; 256];
-    let mut rests = [0u32; 256];
-    let mut hints = [0u32; 8192];
-    let mut firsts = [0usize; ROWS];
-    rounds_in(
-        sizes,
-        rules,
-        targets,
-        elements,
-        states,
-        numbers,
-        heads,
-        n,
-        table,
-        work,
-        &mut all,
-        &mut new,
-        &mut added,
-        &mut ends,
-        &mut keys,
-        &mut rests,
-        &mut hints,
-        &mut firsts,
-    )
 }

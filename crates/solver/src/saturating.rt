@@ -1,14 +1,12 @@
 // The rounds of a game whose sets have few states, over families of sets that are kept over all rounds.
-ghost use Rattle.std.specs.Prelude.{◌≡◌, ◌⊎◌, List, [], ℕ, ◌+◌, ◌*◌, ◌-◌, ◌/◌, ◌<◌, ◌≤◌, length, get_or, replicate};
+ghost use Rattle.std.specs.Prelude.{◌≡◌, ◌⊎◌, List, [], ℕ, ◌*◌, ◌-◌, ◌/◌, ◌≤◌, length, replicate};
 ghost use Rattle.game.specs.Game.{PushdownGame};
-ghost use Rattle.game.specs.GoodGame.{Good};
 ghost use Rattle.table.specs.Table.{Entry, table_words};
 ghost use Rattle.rounds.specs.Rounds.{round_zero};
 ghost use Rattle.rounds.specs.Solving.{solving_game};
-ghost use Rattle.saturation.specs.RuleLinks.{Linked, Climbs};
+ghost use Rattle.saturation.specs.RuleLinks.{Linked};
 ghost use Rattle.noting.specs.Signs.{Reads};
-ghost use Rattle.saturation.specs.Ground.{Areas};
-ghost use Rattle.saturation.specs.Resting.{Resting};
+ghost use Rattle.saturation.specs.Kept.{Room, Rested};
 ghost use Rattle.unions.specs.Ranks.{Sized, Noted};
 ghost use Rattle.solver.specs.Leaving.{leaving, solved_with, called};
 ghost use Rattle.solver.specs.Given.{Given, solving_rounds};
@@ -17,186 +15,198 @@ ghost use Rattle.solver.specs.Rooms.{Numbers, Rooms, Blanks, Few};
 use crate::solving::{Solved, give_up};
 use family::raising_table;
 use game::{Game, Question, Refusal, Sizes};
-use noting::{mark_rules, note_targets, set_masks};
-use saturation::{Counts, link, take_round};
+use noting::{Marks, mark_rules, note_targets, set_masks};
+use saturation::{Kept, Rules, link, take_round};
 use table::EntryWords;
-use unions::write_entries;
+use unions::{Families, Frame, Numbering, write_entries};
 
-// Round 0 and the others, in areas in which nothing is.
-pub fn rounds_in(
+// Round 0 and the others, in arrays in which nothing is.
+pub fn rounds_in<
+    const WORDS: usize,
+    const LINES: usize,
+    const HINTS: usize,
+    const GIVEN: usize,
+    const ENDS: usize,
+    const FIRSTS: usize,
+>(
     sizes: Sizes,
     rules: &[u8],
     targets: &[u32],
-    elements: usize,
-    states: &[u8],
-    numbers: &[usize],
+    numbering: Numbering,
     heads: usize,
     n: usize,
     table: &mut [u32],
     work: &mut [u32],
-    all: &mut [u64],
-    new: &mut [u64],
-    added: &mut [u64],
-    ends: &mut [u64],
-    keys: &mut [u32],
-    rests: &mut [u32],
-    hints: &mut [u32],
-    firsts: &mut [usize],
 ) -> Result<Solved, Refusal>
     requires { ((g : PushdownGame) × Given g sizes rules.now targets.now) × (length table.old ≡ length work.old) × (length table.old ≤ 6144)
-        × (heads ≡ sizes.states * sizes.letters) × Numbers elements states.now numbers.now sizes.letters heads
-        × Rooms heads n all.old new.old added.old ends.old keys.old rests.old hints.old × (sizes.control * sizes.letters ≤ length firsts.old) }
+        × (heads ≡ sizes.states * sizes.letters) × Numbers numbering.count numbering.states numbering.numbers sizes.letters heads
+        × Rooms heads n WORDS LINES HINTS GIVEN ENDS × (sizes.control * sizes.letters ≤ FIRSTS) × (FIRSTS ≤ 1536) }
     ensures { (g : PushdownGame) (m : ℕ) → Given g sizes rules.now targets.now → table.old ≡ replicate (m * 3) 0
-        → Few g elements n states.now numbers.now → Blanks all.old new.old added.old ends.old
+        → Few g numbering.count n numbering.states numbering.numbers
         → called result table.new work.new ≡ leaving (solving_game g m) (length table.old) (length work.old) }
 {
-    let raising = raising_table();
-    let mut nexts = [0usize; Game::MAX_RULES];
     let letters = sizes.letters as usize;
-    link(
-        rules,
-        sizes.rulecount,
-        letters,
-        sizes.control as usize,
-        firsts,
-        &mut nexts,
-    );
-    let mut fresh = [0usize; 64];
-    let mut alive = [0usize; 64];
-    let mut news = [0u64; 32];
-    let size = table.len() / EntryWords::STRIDE;
-    let Some(first) = note_targets(
-        targets,
-        sizes.targetcount,
-        numbers,
+    let control = sizes.control as usize;
+    let mut firsts = [0usize; FIRSTS];
+    let mut nexts = [0usize; Game::MAX_RULES];
+    link(rules, sizes.rulecount, letters, control, &mut firsts, &mut nexts);
+    let mut readers = [0u64; 644];
+    mark_rules(rules, sizes.rulecount, &mut readers);
+    let states = numbering.states;
+    let numbers = numbering.numbers;
+    let raising = raising_table();
+    let frame = Frame {
         letters,
         heads,
         n,
-        all,
+        states,
+        numbers,
+        raising,
+    };
+    let rules = Rules {
+        frame,
+        sizes,
+        bytes: rules,
+        firsts: &firsts[..],
+        nexts: &nexts,
+        readers: &readers,
+    };
+    let mut kept = Kept {
+        families: Families {
+            all: [0u64; WORDS],
+            keys: [0u32; LINES],
+            rests: [0u32; LINES],
+            hints: [0u32; HINTS],
+            count: 0,
+        },
+        added: [0u64; GIVEN],
+        ends: [0u64; ENDS],
+        gains: [0u64; 32],
+        stirred: [0u64; 32],
+    };
+    let mut new = [0u64; WORDS];
+    let mut marks = Marks {
+        fresh: [0usize; 64],
+        alive: [0usize; 64],
+        news: [0u64; 32],
+        held: [0u64; 4],
+    };
+    rounds_of(
+        &rules,
+        numbering.count,
+        targets,
+        &mut new,
+        &mut marks,
+        &mut kept,
+        table,
+        work,
+    )
+}
+
+// The same over rules, with nothing in what is kept.
+fn rounds_of<
+    const WORDS: usize,
+    const LINES: usize,
+    const HINTS: usize,
+    const GIVEN: usize,
+    const ENDS: usize,
+>(
+    rules: &Rules<'_>,
+    elements: usize,
+    targets: &[u32],
+    new: &mut [u64; WORDS],
+    marks: &mut Marks,
+    kept: &mut Kept<WORDS, LINES, HINTS, GIVEN, ENDS>,
+    table: &mut [u32],
+    work: &mut [u32],
+) -> Result<Solved, Refusal>
+    requires { ((g : PushdownGame) × Given g rules.now.sizes rules.now.bytes.now targets.now) × (length table.old ≡ length work.old) × (length table.old ≤ 6144)
+        × (rules.now.frame.heads ≡ rules.now.sizes.states * rules.now.sizes.letters) × (elements ≤ 10)
+        × Room rules.now.frame.heads rules.now.frame.n rules.now.sizes.rulecount WORDS LINES GIVEN ENDS }
+    ensures { (g : PushdownGame) (m : ℕ) → Given g rules.now.sizes rules.now.bytes.now targets.now
+        → Reads rules.now.bytes.now rules.now.sizes.rulecount rules.now.readers.now
+        → Linked rules.now.bytes.now rules.now.sizes.rulecount rules.now.frame.letters rules.now.sizes.control rules.now.firsts.now rules.now.nexts.now
+        → table.old ≡ replicate (m * 3) 0 → Few g elements rules.now.frame.n rules.now.frame.states rules.now.frame.numbers
+        → kept.old.families.count ≡ 0 → Blanks kept.old.families.all new.old kept.old.added kept.old.ends
+        → called result table.new work.new ≡ leaving (solving_game g m) (length table.old) (length work.old) }
+{
+    let size = table.len() / EntryWords::STRIDE;
+    let Some(first) = note_targets(
+        targets,
+        rules.sizes.targetcount,
+        &rules.frame.numbers,
+        rules.frame.letters,
+        rules.frame.heads,
+        rules.frame.n,
+        &mut kept.families.all,
         new,
         work,
         size,
-        &mut news,
+        &mut marks.news,
     ) else {
         return give_up(table, work, Question::Entries.at(0));
     };
     set_masks(
-        elements, states, letters, heads, n, all, new, &mut fresh, &mut alive,
+        elements,
+        &rules.frame.states,
+        rules.frame.letters,
+        rules.frame.heads,
+        rules.frame.n,
+        &kept.families.all,
+        new,
+        &mut marks.fresh,
+        &mut marks.alive,
     );
-    let mut readers = [0u64; 644];
-    mark_rules(rules, sizes.rulecount, &mut readers);
-    rounds_on(
-        sizes, rules, states, numbers, heads, n, table, work, all, new, keys, rests, hints,
-        &mut fresh, &mut alive, ends, firsts, &nexts, &raising, added, first, &mut news, &readers,
-    )
+    rounds_on(rules, new, marks, kept, table, work, first)
 }
 
 // The rounds after round 0, taken in order until settled. The work area has the entries in the order in which they came.
-fn rounds_on(
-    sizes: Sizes,
-    rules: &[u8],
-    states: &[u8],
-    numbers: &[usize],
-    heads: usize,
-    n: usize,
+fn rounds_on<
+    const WORDS: usize,
+    const LINES: usize,
+    const HINTS: usize,
+    const GIVEN: usize,
+    const ENDS: usize,
+>(
+    rules: &Rules<'_>,
+    new: &mut [u64; WORDS],
+    marks: &mut Marks,
+    kept: &mut Kept<WORDS, LINES, HINTS, GIVEN, ENDS>,
     table: &mut [u32],
     log: &mut [u32],
-    all: &mut [u64],
-    new: &mut [u64],
-    keys: &mut [u32],
-    rests: &mut [u32],
-    hints: &mut [u32],
-    fresh: &mut [usize],
-    alive: &mut [usize],
-    ends: &mut [u64],
-    firsts: &[usize],
-    nexts: &[usize],
-    raising: &[u64],
-    added: &mut [u64],
     first: usize,
-    news: &mut [u64],
-    readers: &[u64],
 ) -> Result<Solved, Refusal>
-    requires { Areas sizes.letters heads n sizes.rulecount (length table.old / 3) rules.now states.now numbers.now all.old new.old keys.old rests.old hints.old fresh.old alive.old ends.old added.old log.old raising.now
-        × (first ≤ length table.old / 3) × (sizes.control ≤ 24) × (sizes.control * sizes.letters ≤ heads)
-        × (sizes.control * sizes.letters ≤ length firsts.now) × (256 ≤ length nexts.now) × Climbs nexts.now sizes.rulecount × (sizes.control ≤ sizes.states) × (sizes.states ≤ 32) × (sizes.states * sizes.letters ≤ heads)
-        × (length news.old ≡ 32) × (length readers.now ≡ 644) }
-    ensures { (el : List ℕ) (g : PushdownGame) (m : ℕ) → sizes.control ≡ g.control → sizes.states ≡ g.states → Reads rules.now sizes.rulecount readers.now
-        → Linked rules.now sizes.rulecount sizes.letters sizes.control firsts.now nexts.now
+    requires { Room rules.now.frame.heads rules.now.frame.n rules.now.sizes.rulecount WORDS LINES GIVEN ENDS × (length table.old ≡ length log.old) × (length table.old ≤ 6144)
+        × (first ≤ length table.old / 3) }
+    ensures { (el : List ℕ) (g : PushdownGame) (m : ℕ) → rules.now.sizes.control ≡ g.control → rules.now.sizes.states ≡ g.states
+        → Reads rules.now.bytes.now rules.now.sizes.rulecount rules.now.readers.now
+        → Linked rules.now.bytes.now rules.now.sizes.rulecount rules.now.frame.letters rules.now.sizes.control rules.now.firsts.now rules.now.nexts.now
         → table.old ≡ replicate (m * 3) 0
-        → Resting el g n heads [] (round_zero g) 0 sizes.abelard sizes.letters sizes.rulecount rules.now states.now numbers.now raising.now all.old new.old keys.old rests.old fresh.old alive.old ends.old added.old log.old news.old (replicate 4 0) 0 first
+        → Rested el g [] (round_zero g) 0 rules.now new.old marks.old kept.old log.old kept.old.families.count first
         → called result table.new log.new ≡ leaving (solving_rounds g m) (length table.old) (length log.old) }
 {
     let size = table.len() / EntryWords::STRIDE;
-    let mut counts = Counts {
-        entries: first,
-        lines: 0,
-    };
-    let mut gains = [0u64; 32];
-    let mut stirred = [0u64; 32];
-    let mut held = [0u64; 4];
+    let mut entries = first;
     let mut i = 0u32;
     let mut older = 0;
     let mut oldest = 0;
     loop {
-        let kept = Counts {
-            entries: counts.entries,
-            lines: lines_kept(counts.lines, oldest, older, counts.entries, size),
-        };
-        let Some(next) = take_round(
-            sizes,
-            rules,
-            states,
-            numbers,
-            heads,
-            n,
-            all,
-            new,
-            keys,
-            rests,
-            hints,
-            fresh,
-            alive,
-            ends,
-            firsts,
-            nexts,
-            raising,
-            added,
-            log,
-            size,
-            i + 1,
-            kept,
-            news,
-            &mut gains,
-            &mut stirred,
-            readers,
-            &mut held,
-        ) else {
+        kept.families.count = lines_kept(kept.families.count, oldest, older, entries, size);
+        let Some(next) = take_round(rules, new, marks, kept, log, size, i + 1, entries) else {
             if Game::MAX_ROUNDS <= i {
                 return give_up(table, log, Question::Rounds.at(i as usize + 1));
             }
             return give_up(table, log, Question::Entries.at(i as usize + 1));
         };
-        if next.entries == counts.entries {
-            return settle(
-                table,
-                log,
-                next.entries,
-                i,
-                all,
-                new,
-                states,
-                sizes.letters as usize,
-                heads,
-                n,
-            );
+        if next == entries {
+            return settle(table, log, next, i, &kept.families.all, new, &rules.frame);
         }
         if Game::MAX_ROUNDS <= i {
             return give_up(table, log, Question::Rounds.at(i as usize + 1));
         }
         oldest = older;
-        older = counts.entries;
-        counts = next;
+        older = entries;
+        entries = next;
         i += 1;
     }
 }
@@ -233,21 +243,28 @@ fn settle(
     rounds: u32,
     all: &[u64],
     places: &mut [u64],
-    states: &[u8],
-    letters: usize,
-    heads: usize,
-    n: usize,
+    frame: &Frame,
 ) -> Result<Solved, Refusal>
-    requires { Sized letters heads n entries states.now all.now places.old log.old }
+    requires { Sized frame.now.letters frame.now.heads frame.now.n entries frame.now.states all.now places.old log.old }
     ensures by_index { (el : List ℕ) (g : PushdownGame) (es : List Entry) (m : ℕ)
-        → Noted el g n letters heads states.now all.now log.old entries es m
+        → Noted el g frame.now.n frame.now.letters frame.now.heads frame.now.states all.now log.old entries es m
         → table.old ≡ replicate (m * 3) 0
         → called result table.new log.new ≡ called (solved_with entries rounds) (table_words es (m - length es)) (replicate (length log.old) 0) }
     ensures table_len_unchanged { length table.new ≡ length table.old }
     ensures log_len_unchanged { length log.new ≡ length log.old }
     ensures places_len_unchanged { length places.new ≡ length places.old }
 {
-    write_entries(table, log, entries, all, places, states, letters, heads, n);
+    write_entries(
+        table,
+        log,
+        entries,
+        all,
+        places,
+        &frame.states,
+        frame.letters,
+        frame.heads,
+        frame.n,
+    );
     log.fill(0);
     Ok(Solved { entries, rounds })
 }

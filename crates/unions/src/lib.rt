@@ -8,6 +8,7 @@
 mod bytes;
 mod elements;
 mod ends;
+mod families;
 mod lines;
 mod pairs;
 mod writing;
@@ -15,5 +16,6 @@ mod writing;
 pub use bytes::number_of;
 pub use elements::{Numbering, element_set, elements_of};
 pub use ends::{byte_of, lowest_set, more_ends, more_of_rule};
+pub use families::{Families, Frame};
 pub use lines::{Found, family_of, renew_lines};
 pub use writing::{put_entry, sets_in, write_entries};
