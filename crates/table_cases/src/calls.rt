@@ -1,11 +1,11 @@
 // Direct calls over parts of the sample's table, whose answers are known: each kind of call is made at every entry that it fits, and is
 // counted apart.
-ghost use Rattle.std.specs.Prelude.{◌≤◌, ◌<◌};
-ghost use Rattle.table_cases.specs.Sample.{sample_entries, sample_words, far_index};
+ghost use Rattle.std.specs.Prelude.{◌≤◌};
+ghost use Rattle.table_cases.specs.Sample.{sample_words, far_index};
 
 use crate::cases::{Case, What, same};
 use crate::damage::{Damage, Kind};
-use crate::entries::{ENTRIES, Sample, USED, WORDS, entry_at, fields_of};
+use crate::entries::{ENTRIES, Place, Sample, USED, WORDS, entry_at, fields_of};
 use crate::expected::{Expected, Why};
 use game::Refusal;
 use output::Tally;
@@ -66,7 +66,7 @@ pub fn every_call(t: &mut Tally, sample: &Sample<'_>) {
     for call in Call::ALL {
         let mut c = Tally::new(t.out);
         for i in 0..ENTRIES {
-            one_call(&mut c, call, sample, i);
+            one_call(&mut c, call, sample, Place { entry: i });
         }
         let _ = t.out.println(format_args!(
             "{}: {} checks, {} failed",
@@ -79,16 +79,15 @@ pub fn every_call(t: &mut Tally, sample: &Sample<'_>) {
 }
 
 // The calls of a kind at an entry that it fits.
-fn one_call(t: &mut Tally, call: Call, sample: &Sample<'_>, i: usize)
-    requires { i < sample_entries }
-{
+fn one_call(t: &mut Tally, call: Call, sample: &Sample<'_>, place: Place) {
+    let i = place.entry;
     match call {
-        Call::Empty => empty(t, sample, i),
-        Call::FromStart => from_start(t, sample, i),
-        Call::AfterUnused if 0 < i => after_unused(t, sample, i),
-        Call::AfterEqual if 0 < i && i < USED => after_equal(t, sample, i),
-        Call::FromIndex if 0 < i && i < USED => from_index(t, sample, i),
-        Call::LeftOver if i < USED => left_over(t, sample, i),
+        Call::Empty => empty(t, sample, place),
+        Call::FromStart => from_start(t, sample, place),
+        Call::AfterUnused if 0 < i => after_unused(t, sample, place),
+        Call::AfterEqual if 0 < i && i < USED => after_equal(t, sample, place),
+        Call::FromIndex if 0 < i && i < USED => from_index(t, sample, place),
+        Call::LeftOver if i < USED => left_over(t, sample, place),
         _ => {}
     }
 }
@@ -116,11 +115,10 @@ fn case_of(call: Call, i: usize) -> Case {
 }
 
 // No entry fails where there is none.
-fn empty(t: &mut Tally, sample: &Sample<'_>, i: usize)
-    requires { i < sample_entries }
-{
+fn empty(t: &mut Tally, sample: &Sample<'_>, place: Place) {
+    let i = place.entry;
     let table = sample.table;
-    let at = i * EntryWords::STRIDE;
+    let at = place.offset();
     let got = form_at(sample, i, entry_at(table, i), table, at, at);
     same(
         t,
@@ -131,7 +129,8 @@ fn empty(t: &mut Tally, sample: &Sample<'_>, i: usize)
 }
 
 // The first entry of a table has none before it, whatever is handed in its place.
-fn from_start(t: &mut Tally, sample: &Sample<'_>, i: usize) {
+fn from_start(t: &mut Tally, sample: &Sample<'_>, place: Place) {
+    let i = place.entry;
     let table = sample.table;
     let got = form_at(sample, 0, entry_at(table, i), table, 0, WORDS);
     same(
@@ -143,10 +142,9 @@ fn from_start(t: &mut Tally, sample: &Sample<'_>, i: usize) {
 }
 
 // The first entry of the part fails if it is used, and so are those after it, of which it is the first.
-fn after_unused(t: &mut Tally, sample: &Sample<'_>, i: usize)
-    requires { i < sample_entries }
-{
-    let at = i * EntryWords::STRIDE;
+fn after_unused(t: &mut Tally, sample: &Sample<'_>, place: Place) {
+    let i = place.entry;
+    let at = place.offset();
     let got = form_at(sample, i, EntryWords::none(), sample.table, at, WORDS);
     let expected = if i < USED {
         Expected::refused(Why::Unused, i)
@@ -157,22 +155,19 @@ fn after_unused(t: &mut Tally, sample: &Sample<'_>, i: usize)
 }
 
 // An entry fails after itself, and after one of the same state, letter and set with another birthdate.
-fn after_equal(t: &mut Tally, sample: &Sample<'_>, i: usize)
-    requires { i < sample_entries }
-{
+fn after_equal(t: &mut Tally, sample: &Sample<'_>, place: Place) {
+    let i = place.entry;
     let other = Kind::BirthdateBeyond.damaged(fields_of(i));
     for before in [entry_at(sample.table, i), other.words()] {
-        let at = i * EntryWords::STRIDE;
-        let got = form_at(sample, i, before, sample.table, at, WORDS);
+        let got = form_at(sample, i, before, sample.table, place.offset(), WORDS);
         let expected = Expected::refused(Why::Equal, i);
         same(t, case_of(Call::AfterEqual, i), expected, got);
     }
 }
 
 // The entries from entry 1 on, counted from another index, one of them damaged: its place is counted from there too.
-fn from_index(t: &mut Tally, sample: &Sample<'_>, i: usize)
-    requires { (0 < i) × (i < sample_entries) }
-{
+fn from_index(t: &mut Tally, sample: &Sample<'_>, place: Place) {
+    let i = place.entry;
     let damage = Damage {
         kind: Kind::RuleOther,
         entry: i,
@@ -185,9 +180,8 @@ fn from_index(t: &mut Tally, sample: &Sample<'_>, i: usize)
 }
 
 // A part that ends with one or two words of a damaged entry, which are not looked at, and one that ends with the whole entry.
-fn left_over(t: &mut Tally, sample: &Sample<'_>, i: usize)
-    requires { i < sample_entries }
-{
+fn left_over(t: &mut Tally, sample: &Sample<'_>, place: Place) {
+    let i = place.entry;
     let damage = Damage {
         kind: Kind::RuleBeyond,
         entry: i,
@@ -195,7 +189,7 @@ fn left_over(t: &mut Tally, sample: &Sample<'_>, i: usize)
     let words = damage.of(sample.table);
     let case = case_of(Call::LeftOver, i);
     for left in 1..EntryWords::STRIDE + 1 {
-        let to = i * EntryWords::STRIDE + left;
+        let to = place.offset() + left;
         let got = form_at(sample, 0, EntryWords::none(), &words, 0, to);
         let expected = if left < EntryWords::STRIDE {
             Expected::Sound { used: i }

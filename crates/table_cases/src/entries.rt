@@ -2,7 +2,10 @@
 //
 // Entry 0 is the target transition 0, 0, {1}. Entry i is of letter i and has the set {0}: the last letter is popped in round 1, and letter i
 // is taken to two of the next, so that it comes one round later. Its rule is number i.
+ghost use Rattle.std.specs.Prelude.{◌≡◌, ◌*◌, ◌<◌};
 ghost use Rattle.game.specs.Held.{Safe};
+ghost use Rattle.table.specs.Table.{entry_stride};
+ghost use Rattle.table_cases.specs.Sample.{sample_entries};
 
 use game::Sizes;
 use script::{byte_of, word_of};
@@ -17,6 +20,22 @@ pub const USED: usize = 41;
 pub const ENTRIES: usize = 45;
 
 pub const WORDS: usize = 135;
+
+// A place among the entries of the table.
+#[derive(Clone, Copy)]
+pub struct Place {
+    pub entry: usize,
+    pub ghost within: { entry < sample_entries },
+}
+
+impl Place {
+    // The offset of its first word.
+    pub fn offset(self) -> usize
+        ensures { result ≡ self.entry * entry_stride }
+    {
+        self.entry * EntryWords::STRIDE
+    }
+}
 
 // The sample's game in parts, and its table.
 #[derive(Clone, Copy)]
