@@ -9,28 +9,16 @@ pub returns-then-bytes-lt2 : goal.returns-then-bytes-lt2
 unfolding form
 returns-then-bytes-lt2 c = rw (lt-ltb _ _ c.if-bytes-lt2.true, c.at.ensures)
 
-pub overflow_add-t-7 : goal.overflow_add-t-7
-overflow_add-t-7 c = omega arith
-
 pub returns-then-bytes : goal.returns-then-bytes
 unfolding form
 returns-then-bytes c = rw (le-ltb _ _ c.if-bytes-lt2.false, lt-ltb _ _ c.if-bytes.true, c.at-then-bytes.ensures)
-
-pub bounds-bytes-0 : goal.bounds-bytes-0
-bounds-bytes-0 c = omega arith
 
 pub returns-then-control-bytes : goal.returns-then-control-bytes
 unfolding form
 returns-then-control-bytes c = rw (le-ltb _ _ c.if-bytes-lt2.false, le-ltb _ _ c.if-bytes.false, le-ltb _ _ c.if-control-bytes.true, c.at-then-control-bytes.ensures)
 
-pub overflow_sub-last : goal.overflow_sub-last
-overflow_sub-last c = omega arith
-
 pub loop-i-init : goal.loop-i-init
 loop-i-init c = (omega arith, omega arith, opens _ _ _ c.if-bytes-lt2.false c.if-bytes.false c.if-control-bytes.false)
-
-pub bounds-bytes-i : goal.bounds-bytes-i
-bounds-bytes-i c = omega arith
 
 pub returns-then-a-eq0 : goal.returns-then-a-eq0
 returns-then-a-eq0 c = rw c.at-then-a-eq0.ensures (sym (c.loop-i.invariant.2 ∙ breaks-bottom _ c.loop-i.i _ (omega arith) c.if-a-eq0.true))
@@ -40,9 +28,6 @@ returns-then-letters-a c = rw c.at-then-letters-a.ensures (sym (c.loop-i.invaria
 
 pub loop-i-preserved : goal.loop-i-preserved
 loop-i-preserved c = (omega arith, omega arith, c.loop-i.invariant.2 ∙ goes_down _ c.loop-i.i _ (omega arith) c.if-a-eq0.false c.if-letters-a.false)
-
-pub bounds-bytes-last : goal.bounds-bytes-last
-bounds-bytes-last c = omega arith
 
 pub returns-then-bytes-last-ne0 : goal.returns-then-bytes-last-ne0
 returns-then-bytes-last-ne0 c =

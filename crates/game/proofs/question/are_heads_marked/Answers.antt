@@ -4,9 +4,6 @@ use borrow.Author.Count.{below_more}
 use Rattle.game.specs.ListLaws.{at-all_below, not-all_below}
 use Rattle.game.proofs.question.are_heads_marked.Goals as goal
 
-pub loop-p-init : goal.loop-p-init
-loop-p-init c = (omega arith, λ k h. absurd (omega arith))
-
 pub is_every_letter-requires : goal.is_every_letter-requires
 is_every_letter-requires c = (c.requires.0, omega (arith, c.loop-p-test.true, c.requires.1), c.requires.2)
 

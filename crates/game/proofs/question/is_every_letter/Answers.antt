@@ -5,12 +5,6 @@ use Rattle.game.specs.Marks.{marked}
 use Rattle.game.specs.ListLaws.{at-all_below, not-all_below}
 use Rattle.game.proofs.question.is_every_letter.Goals as goal
 
-pub loop-a-init : goal.loop-a-init
-loop-a-init c = (omega arith, λ k h. absurd (omega arith))
-
-pub is_marked-requires : goal.is_marked-requires
-is_marked-requires c = omega (arith, c.head_slot.ensures, c.requires, c.loop-a-test.true)
-
 pub returns-then-not-is_marked : goal.returns-then-not-is_marked
 returns-then-not-is_marked c = sym (not-all_below _ _ c.loop-a.a c.loop-a-test.true (ap (marked _) (sym c.head_slot.ensures) ∙ sym c.is_marked.ensures ∙ c.if-not-is_marked.true))
 

@@ -6,12 +6,6 @@ use Rattle.game.proofs.Tests.{six}
 use Rattle.game.specs.StoredLaws.{rules-hit, rules-none}
 use Rattle.game.proofs.question.is_rule_stored.Goals as goal
 
-pub loop-r-init : goal.loop-r-init
-loop-r-init c = (omega arith, λ k h. absurd (omega arith))
-
-pub at-requires : goal.at-requires
-at-requires c = omega (arith, c.requires)
-
 pub loop-r-preserved : goal.loop-r-preserved
 unfolding same_rule
 loop-r-preserved c =

@@ -5,12 +5,6 @@ use Rattle.game.specs.Questions.{same_target}
 use Rattle.game.specs.StoredLaws.{targets-hit, targets-none}
 use Rattle.game.proofs.question.is_target_stored.Goals as goal
 
-pub loop-t-init : goal.loop-t-init
-loop-t-init c = (omega arith, λ k h. absurd (omega arith))
-
-pub is_target_at-requires : goal.is_target_at-requires
-is_target_at-requires c = omega (arith, c.requires)
-
 pub returns-then-is_target_at : goal.returns-then-is_target_at
 returns-then-is_target_at c = targets-hit (same_target _ _ _) _ _ c.loop-t.t (omega arith) (sym c.is_target_at.ensures ∙ c.if-is_target_at.true)
 

@@ -1,9 +1,6 @@
 use mathlib.Core.Path.{sym, ◌∙◌}
 use Rattle.judge.proofs.losing.does_lose.Goals as goal
 
-pub returns-then-not-is_rule_of : goal.returns-then-not-is_rule_of
-returns-then-not-is_rule_of c = λ ws l to. rw (sym c.is_rule_of.ensures ∙ c.if-not-is_rule_of.true)
-
 pub returns : goal.returns
 returns c =
     λ ws l to.

@@ -2,16 +2,10 @@ use native.Mathlib.Omega.{arith}
 use Rattle.judge.proofs.Passes.{begin, turn, stops, finish, told, open_number, open-away, open_none, open-found, open-lost}
 use Rattle.judge.proofs.losing.is_head_lost.Goals as goal
 
-pub start_of-i-requires : goal.start_of-i-requires
-start_of-i-requires c = omega arith
-
 pub loop-i-init : goal.loop-i-init
 loop-i-init c =
     let x = c.args in
     begin _ c.requires _ _ (open_number x.q x.a x.lost) (open-away x.q x.a x.lost) _ c.start_of-i.ensures
-
-pub at-entry-requires : goal.at-entry-requires
-at-entry-requires c = omega (arith, c.loop-i-test.true)
 
 pub returns-then-not-is_of_head : goal.returns-then-not-is_of_head
 returns-then-not-is_of_head c =

@@ -10,21 +10,12 @@ returns-then-count-eq0 c =
     c.has_state.ensures
     ∙ none_written x.sizes x.table.now l (rule_at x.rules.now x.at 0) to c.if-count-eq0.true
 
-pub is_head_lost-requires : goal.is_head_lost-requires
-is_head_lost-requires c = c.requires.2
-
 pub returns-then-count-eq1 : goal.returns-then-count-eq1
 returns-then-count-eq1 c =
     λ ws l to.
     let x = c.args in
     c.is_head_lost.ensures
     ∙ one_written x.sizes x.table.now l (rule_at x.rules.now x.at 0) to c.if-count-eq1.true
-
-pub lost_above-lower-requires : goal.lost_above-lower-requires
-lost_above-lower-requires c = let pre = c.requires in (pre.1, pre.2)
-
-pub is_head_lost-requires-2 : goal.is_head_lost-requires-2
-is_head_lost-requires-2 c = c.requires.2
 
 pub returns : goal.returns
 returns c =

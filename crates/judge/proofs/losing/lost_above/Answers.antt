@@ -5,12 +5,6 @@ use Rattle.judge.proofs.losing.lost_above.Goals as goal
 pub loop-q-init : goal.loop-q-init
 loop-q-init c = marked_start _ _
 
-pub is_head_lost-requires : goal.is_head_lost-requires
-is_head_lost-requires c = c.requires.1
-
-pub marked-set-requires : goal.marked-set-requires
-marked-set-requires c = omega (arith, c.requires.0, c.loop-q-test.true)
-
 pub loop-q-preserved : goal.loop-q-preserved
 loop-q-preserved c =
     let at-loop = c.loop-q in

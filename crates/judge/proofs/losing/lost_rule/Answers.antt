@@ -4,9 +4,6 @@ use Rattle.judge.proofs.losing.lost_rule.Goals as goal
 pub returns-then-not-has_state : goal.returns-then-not-has_state
 returns-then-not-has_state c = λ g h n. of-eloise h _ c.has_state.ensures (c.if-not-has_state.true) _ _ n.worths
 
-pub lost_states-requires : goal.lost_states-requires
-lost_states-requires c = c.requires.0.states
-
 pub returns : goal.returns
 returns c =
     λ g h n.

@@ -6,18 +6,6 @@ use Rattle.judge.proofs.losing.lost_states.Goals as goal
 pub loop-q-init : goal.loop-q-init
 loop-q-init c = marked_start _ _
 
-pub overflow_cast-at : goal.overflow_cast-at
-overflow_cast-at c = omega (arith, c.requires)
-
-pub offset_bounds-below-at : goal.offset_bounds-below-at
-offset_bounds-below-at c = omega (arith, c.requires)
-
-pub bounds-below-at : goal.bounds-below-at
-bounds-below-at c = omega (arith, c.requires, c.well_formed)
-
-pub marked-set-requires : goal.marked-set-requires
-marked-set-requires c = omega (arith, c.requires, c.loop-q-test.true)
-
 pub loop-q-preserved : goal.loop-q-preserved
 loop-q-preserved c =
     let at-loop = c.loop-q in

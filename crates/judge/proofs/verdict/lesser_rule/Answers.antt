@@ -1,9 +1,6 @@
 use Rattle.judge.proofs.Steps.{rule-other, rule-lesser}
 use Rattle.judge.proofs.verdict.lesser_rule.Goals as goal
 
-pub entry_worth-requires : goal.entry_worth-requires
-entry_worth-requires c = c.requires
-
 pub returns-then-entry_worth-bound : goal.returns-then-entry_worth-bound
 returns-then-entry_worth-bound c = rule-other _ _ _ _ _ _ c.entry_worth.ensures c.if-entry_worth-bound.true
 

@@ -8,9 +8,6 @@ head_worth-bound-requires c =
     let lent = asked.lent in
     (lent.safe.states, lent.young, lent.sorted, tamed asked c.worths-below.ensures)
 
-pub lost_rule-requires : goal.lost_rule-requires
-lost_rule-requires c = let lent = c.requires.lent in (lent.safe, lent.sorted)
-
 pub returns-then-bound : goal.returns-then-bound
 returns-then-bound c =
     λ g h.

@@ -5,15 +5,6 @@ use Rattle.judge.proofs.worth.empty_worths.Goals as goal
 pub loop-q-init : goal.loop-q-init
 loop-q-init c = start _ _
 
-pub overflow_cast-at : goal.overflow_cast-at
-overflow_cast-at c = omega (arith, c.requires)
-
-pub offset_bounds-out-at : goal.offset_bounds-out-at
-offset_bounds-out-at c = omega (arith, c.requires)
-
-pub bounds-out-at : goal.bounds-out-at
-bounds-out-at c = omega (arith, c.requires, c.loop-q.invariant.long)
-
 pub loop-q-preserved : goal.loop-q-preserved
 unfolding empty_worth
 loop-q-preserved c = next _ _ c.loop-q.q _ c.requires c.loop-q.invariant c.loop-q-test.true _ c.empty_worth.ensures

@@ -4,14 +4,8 @@ use Rattle.judge.proofs.Steps.{born-in}
 use Rattle.judge.proofs.Passes.{begin, turn, stops, finish, told, worth-away, worth-taken}
 use Rattle.judge.proofs.worth.head_worth.Goals as goal
 
-pub start_of-i-requires : goal.start_of-i-requires
-start_of-i-requires c = omega arith
-
 pub loop-i-init : goal.loop-i-init
 loop-i-init c = begin _ c.requires.2 _ _ (head_number c.args.q c.args.a c.args.states c.args.below.now) (worth-away c.args.q c.args.a c.args.states c.args.below.now) _ c.start_of-i.ensures
-
-pub at-entry-requires : goal.at-entry-requires
-at-entry-requires c = omega (arith, c.loop-i-test.true)
 
 pub returns-then-not-is_of_head : goal.returns-then-not-is_of_head
 returns-then-not-is_of_head c =

@@ -5,18 +5,6 @@ use Rattle.judge.proofs.worth.letter_step.Goals as goal
 pub loop-q-init : goal.loop-q-init
 loop-q-init c = start _ _
 
-pub overflow_cast-at : goal.overflow_cast-at
-overflow_cast-at c = omega (arith, c.requires.0)
-
-pub head_worth-requires : goal.head_worth-requires
-head_worth-requires c = c.requires
-
-pub offset_bounds-out-at : goal.offset_bounds-out-at
-offset_bounds-out-at c = omega (arith, c.requires.0)
-
-pub bounds-out-at : goal.bounds-out-at
-bounds-out-at c = omega (arith, c.requires.0, c.loop-q.invariant.long)
-
 pub loop-q-preserved : goal.loop-q-preserved
 unfolding step_number
 loop-q-preserved c = next _ _ c.loop-q.q _ c.requires.0 c.loop-q.invariant c.loop-q-test.true _ c.head_worth.ensures

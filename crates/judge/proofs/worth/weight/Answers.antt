@@ -2,9 +2,6 @@ use Rattle.judge.specs.Worth.{base_weight}
 use Rattle.judge.proofs.Tests.{shifted, no_less}
 use Rattle.judge.proofs.worth.weight.Goals as goal
 
-pub overflow_sub-result : goal.overflow_sub-result
-overflow_sub-result c = no_less c.args.birthdate c.requires
-
 pub returns : goal.returns
 unfolding base_weight
 returns c = rw (shifted c.args.birthdate c.requires)

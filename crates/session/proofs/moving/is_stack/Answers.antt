@@ -3,12 +3,6 @@ use native.Mathlib.Omega.{arith}
 use Rattle.session.proofs.Scan.{starts, breaks-bottom, breaks-letter, goes_down, breaks-last, ends}
 use Rattle.session.proofs.moving.is_stack.Goals as goal
 
-pub loop-i-init : goal.loop-i-init
-loop-i-init c = (omega (arith, c.requires.0), starts _ _ _ c.requires.0)
-
-pub bounds-stack-i : goal.bounds-stack-i
-bounds-stack-i c = omega arith
-
 pub returns-then-a-eq0 : goal.returns-then-a-eq0
 returns-then-a-eq0 c = breaks-bottom _ _ _ (c.loop-i.i - 1) c.loop-i.invariant.1 (omega arith) c.if-a-eq0.true
 
@@ -17,9 +11,6 @@ returns-then-letters-a c = breaks-letter _ _ _ (c.loop-i.i - 1) c.loop-i.invaria
 
 pub loop-i-preserved : goal.loop-i-preserved
 loop-i-preserved c = (omega arith, goes_down _ _ _ (c.loop-i.i - 1) c.loop-i.invariant.1 (omega arith) c.if-a-eq0.false c.if-letters-a.false)
-
-pub bounds-stack-0 : goal.bounds-stack-0
-bounds-stack-0 c = omega arith
 
 pub returns-then-stack-ne0 : goal.returns-then-stack-ne0
 returns-then-stack-ne0 c = breaks-last _ _ _ (c.loop-i.i - 1) c.loop-i.invariant.1 (omega arith) c.if-stack-ne0.true

@@ -6,15 +6,6 @@ use Rattle.table.proofs.Pass.{room}
 use Rattle.table.proofs.Parts.{goes-on, stops-there, comes-out}
 use Rattle.table.proofs.check.entries_form.Goals as goal
 
-pub loop-i-init : goal.loop-i-init
-loop-i-init c = (omega arith, λ g h. rw (add-zero c.args.first))
-
-pub at-entry-requires : goal.at-entry-requires
-at-entry-requires c = room c.loop-i.i _ c.loop-i-test.true
-
-pub does_pass-requires : goal.does_pass-requires
-does_pass-requires c = c.requires.0
-
 pub returns-then-not-does_pass : goal.returns-then-not-does_pass
 returns-then-not-does_pass c =
     λ g h.

@@ -16,14 +16,8 @@ returns-then-sizes-letter c = λ g h. by_parts g _ (under (ap (λ (x : Sizes). x
 pub returns-then-set-eq0 : goal.returns-then-set-eq0
 returns-then-set-eq0 c = λ g h. by_parts g _ (under (ap (λ (x : Sizes). x.states) h.sized) c.state-state.ensures c.if-sizes-state.false) (under (ap (λ (x : Sizes). x.letters) h.sized) c.letter-letter.ensures c.if-sizes-letter.false) (ap not (eq-eqb _ _ c.if-set-eq0.true)) refl refl refl
 
-pub is_within-requires : goal.is_within-requires
-is_within-requires c = (zero-le, c.requires.states)
-
 pub returns-then-not-is_within : goal.returns-then-not-is_within
 returns-then-not-is_within c = λ g h. by_parts g _ (under (ap (λ (x : Sizes). x.states) h.sized) c.state-state.ensures c.if-sizes-state.false) (under (ap (λ (x : Sizes). x.letters) h.sized) c.letter-letter.ensures c.if-sizes-letter.false) (ap not (ne_eqb _ _ c.if-set-eq0.false)) (sym (ap (λ (x : Sizes). eqb (c.args.entry.set / 2 ^ x.states) 0) h.sized) ∙ sym (within-high _ _) ∙ sym c.is_within.ensures ∙ c.if-not-is_within.true) refl refl
-
-pub is_birthdate_in_form-requires : goal.is_birthdate_in_form-requires
-is_birthdate_in_form-requires c = c.requires.control
 
 pub returns-then-not-is_birthdate_in_form : goal.returns-then-not-is_birthdate_in_form
 returns-then-not-is_birthdate_in_form c = λ g h. by_parts g _ (under (ap (λ (x : Sizes). x.states) h.sized) c.state-state.ensures c.if-sizes-state.false) (under (ap (λ (x : Sizes). x.letters) h.sized) c.letter-letter.ensures c.if-sizes-letter.false) (ap not (ne_eqb _ _ c.if-set-eq0.false)) (sym (ap (λ (x : Sizes). eqb (c.args.entry.set / 2 ^ x.states) 0) h.sized) ∙ sym (within-high _ _) ∙ sym c.is_within.ensures ∙ c.if-not-is_within.false) (dated g _ _ h.sized _ _ c.state-state.ensures _ _ c.birthdate.ensures _ _ c.is_birthdate_in_form.ensures (c.if-not-is_birthdate_in_form.true)) refl

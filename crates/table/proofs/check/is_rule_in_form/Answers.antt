@@ -17,8 +17,5 @@ returns-then-has_state c = λ g h. rule-by-parts g _ _ _ _ (ne_eqb _ _ c.if-birt
 pub returns-then-rule-eq0 : goal.returns-then-rule-eq0
 returns-then-rule-eq0 c = λ g h. rule-by-parts g _ _ _ _ (ne_eqb _ _ c.if-birthdate-eq0.false) (under (ap (λ (x : Sizes). x.control) h.sized) refl c.if-sizes-state.false) (sym (ap (λ (x : Sizes). has x.abelard c.args.state) h.sized) ∙ sym c.has_state.ensures ∙ c.if-has_state.false) (eq-eqb _ _ c.if-rule-eq0.true)
 
-pub is_rule_numbered-requires : goal.is_rule_numbered-requires
-is_rule_numbered-requires c = (c.requires.fit, c.requires.few)
-
 pub returns : goal.returns
 returns c = λ g h. c.is_rule_numbered.ensures g _ refl h ∙ rule-by-parts g _ _ _ _ (ne_eqb _ _ c.if-birthdate-eq0.false) (under (ap (λ (x : Sizes). x.control) h.sized) refl c.if-sizes-state.false) (sym (ap (λ (x : Sizes). has x.abelard c.args.state) h.sized) ∙ sym c.has_state.ensures ∙ c.if-has_state.false) (ne_eqb _ _ c.if-rule-eq0.false)

@@ -27,17 +27,8 @@ returns-in_default c =
     rw
     (c.at-in_default.ensures, c.from.ensures, stops _ _ _ _ _ _ c.loop-at.invariant c.loop-at-test.true _ (sym c.read_command-found.ensures ∙ c.unwrap_err.ensures))
 
-pub slice_bounds-ask_command-end : goal.slice_bounds-ask_command-end
-slice_bounds-ask_command-end c = sym (rules-whole _ _ _ _ _ _ c.loop-at.invariant c.loop-at-test.true)
-
 pub slice_bounds-ask_command-end-in-loop-at : goal.slice_bounds-ask_command-end-in-loop-at
 slice_bounds-ask_command-end-in-loop-at c = sym (targets-whole _ _ _ _ _ _ c.loop-at.invariant c.loop-at-test.true)
-
-pub slice_bounds-ask_command-end-in-loop-at-2 : goal.slice_bounds-ask_command-end-in-loop-at-2
-slice_bounds-ask_command-end-in-loop-at-2 c = sym c.loop-at.invariant.marked.long
-
-pub ask_command-requires : goal.ask_command-requires
-ask_command-requires c = asks _ _ _ _ _ _ c.loop-at.invariant c.loop-at-test.true
 
 pub returns-in-Err : goal.returns-in-Err
 returns-in-Err c =
@@ -53,14 +44,8 @@ returns-in-End c =
     (closes _ _ _ _ _ _ c.loop-at.invariant c.loop-at-test.true _ _ (sym c.read_command-found.ensures ∙ c.in-Ok.is) _ (c.ask_command.ensures _ c.loop-at.invariant.held c.loop-at.invariant.marked) (ap asked c.in_default-ask_command.is) c.in-End.is)
     (c.close.ensures _ c.loop-at.invariant.held)
 
-pub slice_bounds-with-end : goal.slice_bounds-with-end
-slice_bounds-with-end c = sym (rules-whole _ _ _ _ _ _ c.loop-at.invariant c.loop-at-test.true)
-
 pub slice_bounds-with-end-in-loop-at : goal.slice_bounds-with-end-in-loop-at
 slice_bounds-with-end-in-loop-at c = sym (targets-whole _ _ _ _ _ _ c.loop-at.invariant c.loop-at-test.true)
-
-pub slice_bounds-with-end-in-loop-at-2 : goal.slice_bounds-with-end-in-loop-at-2
-slice_bounds-with-end-in-loop-at-2 c = sym c.loop-at.invariant.marked.long
 
 pub with-sizes-requires : goal.with-sizes-requires
 with-sizes-requires c = (fits _ _ _ _ _ _ c.loop-at.invariant c.loop-at-test.true _ _ (sym c.read_command-found.ensures ∙ c.in-Ok.is) _ (c.ask_command.ensures _ c.loop-at.invariant.held c.loop-at.invariant.marked) (ap asked c.in_default-ask_command.is), rules-whole _ _ _ _ _ _ c.loop-at.invariant c.loop-at-test.true, targets-whole _ _ _ _ _ _ c.loop-at.invariant c.loop-at-test.true, c.loop-at.invariant.marked.long)

@@ -2,18 +2,6 @@ use Rattle.game.specs.Questions.{add}
 use Rattle.game.proofs.Tests.{shifted-one-word}
 use Rattle.game.proofs.game.Sizes.with.Goals as goal
 
-pub overflow_shl-next : goal.overflow_shl-next
-overflow_shl-next c = rw c.in-Abelard.is at c.requires.0
-
-pub overflow_shl-next-in-Final : goal.overflow_shl-next-in-Final
-overflow_shl-next-in-Final c = rw c.in-Final.is at c.requires.0
-
-pub with_rule-requires : goal.with_rule-requires
-with_rule-requires c = (rw c.in-Rule.is at c.requires.0, c.requires.1, c.requires.3)
-
-pub with_target-requires : goal.with_target-requires
-with_target-requires c = (rw c.in-Target.is at c.requires.0, c.requires.2, c.requires.3)
-
 pub returns-in-Sizes : goal.returns-in-Sizes
 unfolding add
 returns-in-Sizes c =
