@@ -96,8 +96,6 @@ pub fn rules_from(
         (map (entry_at job.state job.letter birthdate job.field) (rest_runs g old (rules_between g job.state job.letter from job.end) union))
         s table.new (number_of n result) memo.new }
     ensures within { count * 3 ≤ length table.old → IfSome result (λ filled. filled * 3 ≤ length table.old) }
-    ensures table_len_unchanged { length table.new ≡ length table.old }
-    ensures memo_len_unchanged { length memo.new ≡ length memo.old }
 {
     let Some(r) = next_rule(
         task.rules,
@@ -162,8 +160,6 @@ fn rules_by(
         (map (entry_at job.state job.letter birthdate job.field) (listed_runs g old job.state job.letter job.end lists.now.sets.now lists.now.spans.now r union))
         s table.new (number_of n result) memo.new }
     ensures within { count * 3 ≤ length table.old → IfSome result (λ filled. filled * 3 ≤ length table.old) }
-    ensures table_len_unchanged { length table.new ≡ length table.old }
-    ensures memo_len_unchanged { length memo.new ≡ length memo.old }
 {
     let end = list_end(lists.spans, r, lists.sets.len());
     let mut filled = count;
@@ -206,8 +202,6 @@ pub fn runs_with(
         (map (entry_at job.state job.letter birthdate job.field) (begin_runs g old job.state job.letter job.end r i union))
         s table.new (number_of n result) memo.new }
     ensures within { count * 3 ≤ length table.old → IfSome result (λ filled. filled * 3 ≤ length table.old) }
-    ensures table_len_unchanged { length table.new ≡ length table.old }
-    ensures memo_len_unchanged { length memo.new ≡ length memo.old }
 {
     let entry = EntryWords::at(task.work, i);
     let at = r * Game::RULE_STRIDE;
@@ -255,8 +249,6 @@ pub fn rules_after(
         (map (entry_at job.state job.letter birthdate job.field) (sub_runs g old job.state job.letter job.end r 0 union))
         s table.new (number_of n result) memo.new }
     ensures within { count * 3 ≤ length table.old → IfSome result (λ filled. filled * 3 ≤ length table.old) }
-    ensures table_len_unchanged { length table.new ≡ length table.old }
-    ensures memo_len_unchanged { length memo.new ≡ length memo.old }
 {
     if 0 < older_below(task.job.last, r, 0, late) {
         return Some(count);
@@ -297,8 +289,6 @@ fn pass_states(
         (map (entry_at job.state job.letter birthdate job.field) (sub_runs g old job.state job.letter job.end r set reached))
         s table.new (number_of n result) memo.new }
     ensures within { count * 3 ≤ length table.old → IfSome result (λ filled. filled * 3 ≤ length table.old) }
-    ensures table_len_unchanged { length table.new ≡ length table.old }
-    ensures memo_len_unchanged { length memo.new ≡ length memo.old }
 {
     let tag = tag_of(task.job.state, task.job.letter, r);
     let below = task.rules[r * Game::RULE_STRIDE + 5];

@@ -99,7 +99,6 @@ fn round_zero(sizes: Sizes, rules: &[u8], targets: &[u32], table: &mut [u32]) ->
         → table.old ≡ replicate (n * 3) 0
         → Filled n table.new (number_of n result) (growing n (map target_entry g.targets) (partly [])) }
     ensures within { IfSome result (λ count. count * 3 ≤ length table.old) }
-    ensures table_len_unchanged { length table.new ≡ length table.old }
 {
     let mut count = 0;
     for t in 0..sizes.targetcount {

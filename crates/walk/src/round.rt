@@ -46,7 +46,6 @@ pub fn take_wide(
         → (1 < birthdate → HeldBy n (candidates g (older birthdate es) birthdate) (partly es))
         → Filled n table.new (number_of n result) (growing n (candidates g es birthdate) (partly es)) }
     ensures within { old * 3 ≤ length table.old → IfSome result (λ count. count * 3 ≤ length table.old) }
-    ensures table_len_unchanged { length table.new ≡ length table.old }
 {
     let mut places = [0usize; PLACES];
     set_places(&mut places, work, old, sizes.states, sizes.letters);
@@ -106,7 +105,6 @@ fn add_runs(
         → Placing g round.entry.work.now old round.entry.places.now → Blank memo.old
         → Filled n table.new (number_of n result) (growing n (candidates g es birthdate) (partly es)) }
     ensures within { round.entry.old * 3 ≤ length table.old → IfSome result (λ count. count * 3 ≤ length table.old) }
-    ensures table_len_unchanged { length table.new ≡ length table.old }
 {
     let sizes = round.sizes;
     let letters = sizes.letters as usize;
@@ -248,8 +246,6 @@ fn run_at(
         (map (entry_at job.state job.letter birthdate job.field) (run_runs g old job.state job.letter job.end r i))
         s table.new (number_of n result) memo.new }
     ensures within { count * 3 ≤ length table.old → IfSome result (λ filled. filled * 3 ≤ length table.old) }
-    ensures table_len_unchanged { length table.new ≡ length table.old }
-    ensures memo_len_unchanged { length memo.new ≡ length memo.old }
 {
     let at = r * Game::RULE_STRIDE;
     if task.rules[at + 3] == 0 {

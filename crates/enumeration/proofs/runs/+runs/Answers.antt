@@ -19,44 +19,44 @@ use Prim.Native.Nat.{ℕ}
 use Rattle.enumeration.proofs.runs.+runs.Goals as goal
 
 pub pass_states-loop-found-init : goal.pass_states-loop-found-init
-pass_states-loop-found-init t c = (refl, refl, λ h. h, bounded-start _ _ _ c.requires.1 (omega arith) c.start_at-i.ensures.upper_bound, λ g old b n s h pl ag li whole small past. walk-starts g old b n _ _ _ _ _ _ _ s h _ _ _ _ c.highest.ensures c.requires.1 small (starts-below g old b n _ _ _ _ _ _ s h _ c.requires.0 _ pl _ _ small c.requires.1 c.highest.ensures _ (c.start_at-i.ensures.by_index _)) _ past _ _ _ _)
+pass_states-loop-found-init t c = (λ h. h, bounded-start _ _ _ c.requires.1 (omega arith) c.start_at-i.ensures.upper_bound, λ g old b n s h pl ag li whole small past. walk-starts g old b n _ _ _ _ _ _ _ s h _ _ _ _ c.highest.ensures c.requires.1 small (starts-below g old b n _ _ _ _ _ _ s h _ c.requires.0 _ pl _ _ small c.requires.1 c.highest.ensures _ (c.start_at-i.ensures.by_index _)) _ past _ _ _ _)
 
 pub pass_states-nonzero_rem-rest : goal.pass_states-nonzero_rem-rest
 pass_states-nonzero_rem-rest t c = rw (shifted_one _ c.highest-q.ensures.small) (omega (arith, pow_pos c.highest-q.result))
 
 pub pass_states-returns-then-depth-eq0-clause-finished : goal.pass_states-returns-then-depth-eq0-clause-finished
 pass_states-returns-then-depth-eq0-clause-finished t c =
-    λ g old b n s h pl ag li whole small past. let w = c.loop-found.invariant.4 g old b n s h pl ag li whole small past in walk_ends g old b n _ _ _ _ s _ _ _ _ _ _ _ _ _ _ _ _ _ _ w whole (within g old b n _ _ _ _ _ _ s h _ c.requires.0) _ c.highest-q.ensures _ c.tag_of-tag.ensures _ (rest-is _ _ c.highest-q.ensures) c.args.task.now.fresh.now ag c.fresh_on-new.result (c.fresh_on-new.ensures ∙ ap (λ (a : ℕ). get_or c.args.task.now.fresh.now a 0) (below-is g old b n _ _ _ _ _ _ s h _ c.requires.0)) c.older_below-passing.result c.older_below-passing.ensures _ _ c.in_default.ensures.skipped (omega (arith, c.in_default.ensures.skipped.within, c.loop-found.invariant.3.within, c.end_at-end.ensures.upper_bound)) (ends-below g old b n _ _ _ _ _ _ s h _ c.requires.0 _ pl _ _ w.fit.small w.fit.some c.highest-q.ensures _ (c.end_at-end.ensures.by_index _)) (omega arith) c.if-depth-eq0.true
+    λ g old b n s h pl ag li whole small past. let w = c.loop-found.invariant.2 g old b n s h pl ag li whole small past in walk_ends g old b n _ _ _ _ s _ _ _ _ _ _ _ _ _ _ _ _ _ _ w whole (within g old b n _ _ _ _ _ _ s h _ c.requires.0) _ c.highest-q.ensures _ c.tag_of-tag.ensures _ (rest-is _ _ c.highest-q.ensures) c.args.task.now.fresh.now ag c.fresh_on-new.result (c.fresh_on-new.ensures ∙ ap (λ (a : ℕ). get_or c.args.task.now.fresh.now a 0) (below-is g old b n _ _ _ _ _ _ s h _ c.requires.0)) c.older_below-passing.result c.older_below-passing.ensures _ _ c.in_default.ensures.skipped (omega (arith, c.in_default.ensures.skipped.within, c.loop-found.invariant.1.within, c.end_at-end.ensures.upper_bound)) (ends-below g old b n _ _ _ _ _ _ s h _ c.requires.0 _ pl _ _ w.fit.small w.fit.some c.highest-q.ensures _ (c.end_at-end.ensures.by_index _)) (omega arith) c.if-depth-eq0.true
 
 pub pass_states-offset_bounds-lefts-depth : goal.pass_states-offset_bounds-lefts-depth
-pass_states-offset_bounds-lefts-depth t c = omega (arith, deep _ _ _ _ _ _ _ _ c.loop-found.invariant.3)
+pass_states-offset_bounds-lefts-depth t c = omega (arith, deep _ _ _ _ _ _ _ _ c.loop-found.invariant.1)
 
 pub pass_states-bounds-lefts-depth : goal.pass_states-bounds-lefts-depth
-pass_states-bounds-lefts-depth t c = omega (arith, deep _ _ _ _ _ _ _ _ c.loop-found.invariant.3, c.loop-found.invariant.3.lefts-long)
+pass_states-bounds-lefts-depth t c = omega (arith, deep _ _ _ _ _ _ _ _ c.loop-found.invariant.1, c.loop-found.invariant.1.lefts-long)
 
 pub pass_states-offset_bounds-unions-depth : goal.pass_states-offset_bounds-unions-depth
-pass_states-offset_bounds-unions-depth t c = omega (arith, deep _ _ _ _ _ _ _ _ c.loop-found.invariant.3)
+pass_states-offset_bounds-unions-depth t c = omega (arith, deep _ _ _ _ _ _ _ _ c.loop-found.invariant.1)
 
 pub pass_states-bounds-unions-depth : goal.pass_states-bounds-unions-depth
-pass_states-bounds-unions-depth t c = omega (arith, deep _ _ _ _ _ _ _ _ c.loop-found.invariant.3, c.loop-found.invariant.3.unions-long)
+pass_states-bounds-unions-depth t c = omega (arith, deep _ _ _ _ _ _ _ _ c.loop-found.invariant.1, c.loop-found.invariant.1.unions-long)
 
 pub pass_states-offset_bounds-nexts-depth : goal.pass_states-offset_bounds-nexts-depth
-pass_states-offset_bounds-nexts-depth t c = omega (arith, deep _ _ _ _ _ _ _ _ c.loop-found.invariant.3)
+pass_states-offset_bounds-nexts-depth t c = omega (arith, deep _ _ _ _ _ _ _ _ c.loop-found.invariant.1)
 
 pub pass_states-bounds-nexts-depth : goal.pass_states-bounds-nexts-depth
-pass_states-bounds-nexts-depth t c = omega (arith, deep _ _ _ _ _ _ _ _ c.loop-found.invariant.3, c.loop-found.invariant.3.nexts-long)
+pass_states-bounds-nexts-depth t c = omega (arith, deep _ _ _ _ _ _ _ _ c.loop-found.invariant.1, c.loop-found.invariant.1.nexts-long)
 
 pub pass_states-offset_bounds-limits-depth : goal.pass_states-offset_bounds-limits-depth
-pass_states-offset_bounds-limits-depth t c = omega (arith, deep _ _ _ _ _ _ _ _ c.loop-found.invariant.3)
+pass_states-offset_bounds-limits-depth t c = omega (arith, deep _ _ _ _ _ _ _ _ c.loop-found.invariant.1)
 
 pub pass_states-bounds-limits-depth : goal.pass_states-bounds-limits-depth
-pass_states-bounds-limits-depth t c = omega (arith, deep _ _ _ _ _ _ _ _ c.loop-found.invariant.3, c.loop-found.invariant.3.limits-long)
+pass_states-bounds-limits-depth t c = omega (arith, deep _ _ _ _ _ _ _ _ c.loop-found.invariant.1, c.loop-found.invariant.1.limits-long)
 
 pub pass_states-loop-found-smaller-in_default : goal.pass_states-loop-found-smaller-in_default
-pass_states-loop-found-smaller-in_default t c = falls-before _ _ _ _ (omega (arith, c.if-depth-eq0.false)) c.loop-found.invariant.3.within
+pass_states-loop-found-smaller-in_default t c = falls-before _ _ _ _ (omega (arith, c.if-depth-eq0.false)) c.loop-found.invariant.1.within
 
 pub pass_states-loop-found-preserved-in_default : goal.pass_states-loop-found-preserved-in_default
-pass_states-loop-found-preserved-in_default t c = (c.loop-found.invariant.0, search rules, c.loop-found.invariant.2, bounded-before _ _ _ _ _ _ _ _ c.loop-found.invariant.3 _ (omega (arith, c.if-depth-eq0.false)), λ g old b n s h pl ag li whole small past. let w = c.loop-found.invariant.4 g old b n s h pl ag li whole small past in walk-back g old b n _ _ _ _ s _ _ _ _ _ _ _ _ _ _ _ _ _ _ w whole (within g old b n _ _ _ _ _ _ s h _ c.requires.0) _ c.highest-q.ensures _ c.tag_of-tag.ensures _ (rest-is _ _ c.highest-q.ensures) c.args.task.now.fresh.now ag c.fresh_on-new.result (c.fresh_on-new.ensures ∙ ap (λ (a : ℕ). get_or c.args.task.now.fresh.now a 0) (below-is g old b n _ _ _ _ _ _ s h _ c.requires.0)) c.older_below-passing.result c.older_below-passing.ensures _ _ c.in_default.ensures.skipped (omega (arith, c.in_default.ensures.skipped.within, c.loop-found.invariant.3.within, c.end_at-end.ensures.upper_bound)) (ends-below g old b n _ _ _ _ _ _ s h _ c.requires.0 _ pl _ _ w.fit.small w.fit.some c.highest-q.ensures _ (c.end_at-end.ensures.by_index _)) (omega arith) _ c.finish.ensures (omega (arith, c.if-depth-eq0.false)))
+pass_states-loop-found-preserved-in_default t c = (c.loop-found.invariant.0, bounded-before _ _ _ _ _ _ _ _ c.loop-found.invariant.1 _ (omega (arith, c.if-depth-eq0.false)), λ g old b n s h pl ag li whole small past. let w = c.loop-found.invariant.2 g old b n s h pl ag li whole small past in walk-back g old b n _ _ _ _ s _ _ _ _ _ _ _ _ _ _ _ _ _ _ w whole (within g old b n _ _ _ _ _ _ s h _ c.requires.0) _ c.highest-q.ensures _ c.tag_of-tag.ensures _ (rest-is _ _ c.highest-q.ensures) c.args.task.now.fresh.now ag c.fresh_on-new.result (c.fresh_on-new.ensures ∙ ap (λ (a : ℕ). get_or c.args.task.now.fresh.now a 0) (below-is g old b n _ _ _ _ _ _ s h _ c.requires.0)) c.older_below-passing.result c.older_below-passing.ensures _ _ c.in_default.ensures.skipped (omega (arith, c.in_default.ensures.skipped.within, c.loop-found.invariant.1.within, c.end_at-end.ensures.upper_bound)) (ends-below g old b n _ _ _ _ _ _ s h _ c.requires.0 _ pl _ _ w.fit.small w.fit.some c.highest-q.ensures _ (c.end_at-end.ensures.by_index _)) (omega arith) _ c.finish.ensures (omega (arith, c.if-depth-eq0.false)))
 
 pub pass_states-rules_after-requires : goal.pass_states-rules_after-requires
 pass_states-rules_after-requires t c = (omega arith, c.requires.0)
@@ -64,46 +64,46 @@ pass_states-rules_after-requires t c = (omega arith, c.requires.0)
 pub pass_states-returns-in_err-filled-clause-finished : goal.pass_states-returns-in_err-filled-clause-finished
 pass_states-returns-in_err-filled-clause-finished t c =
     rw c.from_residual.ensures
-    (λ g old b n s h pl ag li whole small past. let w = c.loop-found.invariant.4 g old b n s h pl ag li whole small past in walk-over g old b n _ _ _ _ s _ _ _ _ _ _ _ _ _ _ _ _ _ _ (walk-takes g old b n _ _ _ _ s _ _ _ _ _ _ _ _ _ _ _ _ _ _ w whole (within g old b n _ _ _ _ _ _ s h _ c.requires.0) _ c.highest-q.ensures _ c.tag_of-tag.ensures _ (rest-is _ _ c.highest-q.ensures) c.args.task.now.fresh.now ag c.fresh_on-new.result (c.fresh_on-new.ensures ∙ ap (λ (a : ℕ). get_or c.args.task.now.fresh.now a 0) (below-is g old b n _ _ _ _ _ _ s h _ c.requires.0)) c.older_below-passing.result c.older_below-passing.ensures _ _ c.in-Some.ensures.skipped (omega (arith, c.in-Some.ensures.skipped.within, c.loop-found.invariant.3.within, c.end_at-end.ensures.upper_bound)) (ends-below g old b n _ _ _ _ _ _ s h _ c.requires.0 _ pl _ _ w.fit.small w.fit.some c.highest-q.ensures _ (c.end_at-end.ensures.by_index _)) c.in-Some.ensures.within (below-small g old b n _ _ _ _ _ _ s h _ c.requires.0 _ pl) _ refl c.if-rest-eq0.true _ _ _ (c.in_err-filled.ensures.finished g old b n w.now w.entered pl ag li whole (word-adds g old b n _ _ _ _ _ _ w.now w.entered c.in-Some.found c.loop-found.union (omega (arith, c.in-Some.ensures.within, c.end_at-end.ensures.upper_bound))) (past-last g old b n _ _ _ _ s _ _ _ _ _ _ _ _ _ _ _ _ _ _ w whole (within g old b n _ _ _ _ _ _ s h _ c.requires.0) _ c.highest-q.ensures _ c.tag_of-tag.ensures _ (rest-is _ _ c.highest-q.ensures) c.args.task.now.fresh.now ag c.fresh_on-new.result (c.fresh_on-new.ensures ∙ ap (λ (a : ℕ). get_or c.args.task.now.fresh.now a 0) (below-is g old b n _ _ _ _ _ _ s h _ c.requires.0)) c.older_below-passing.result c.older_below-passing.ensures _ _ c.in-Some.ensures.skipped (omega (arith, c.in-Some.ensures.skipped.within, c.loop-found.invariant.3.within, c.end_at-end.ensures.upper_bound)) (ends-below g old b n _ _ _ _ _ _ s h _ c.requires.0 _ pl _ _ w.fit.small w.fit.some c.highest-q.ensures _ (c.end_at-end.ensures.by_index _)) c.in-Some.ensures.within (below-small g old b n _ _ _ _ _ _ s h _ c.requires.0 _ pl) _ refl c.if-rest-eq0.true c.still_late-still.result c.still_late-still.ensures))) refl)
+    (λ g old b n s h pl ag li whole small past. let w = c.loop-found.invariant.2 g old b n s h pl ag li whole small past in walk-over g old b n _ _ _ _ s _ _ _ _ _ _ _ _ _ _ _ _ _ _ (walk-takes g old b n _ _ _ _ s _ _ _ _ _ _ _ _ _ _ _ _ _ _ w whole (within g old b n _ _ _ _ _ _ s h _ c.requires.0) _ c.highest-q.ensures _ c.tag_of-tag.ensures _ (rest-is _ _ c.highest-q.ensures) c.args.task.now.fresh.now ag c.fresh_on-new.result (c.fresh_on-new.ensures ∙ ap (λ (a : ℕ). get_or c.args.task.now.fresh.now a 0) (below-is g old b n _ _ _ _ _ _ s h _ c.requires.0)) c.older_below-passing.result c.older_below-passing.ensures _ _ c.in-Some.ensures.skipped (omega (arith, c.in-Some.ensures.skipped.within, c.loop-found.invariant.1.within, c.end_at-end.ensures.upper_bound)) (ends-below g old b n _ _ _ _ _ _ s h _ c.requires.0 _ pl _ _ w.fit.small w.fit.some c.highest-q.ensures _ (c.end_at-end.ensures.by_index _)) c.in-Some.ensures.within (below-small g old b n _ _ _ _ _ _ s h _ c.requires.0 _ pl) _ refl c.if-rest-eq0.true _ _ _ (c.in_err-filled.ensures.finished g old b n w.now w.entered pl ag li whole (word-adds g old b n _ _ _ _ _ _ w.now w.entered c.in-Some.found c.loop-found.union (omega (arith, c.in-Some.ensures.within, c.end_at-end.ensures.upper_bound))) (past-last g old b n _ _ _ _ s _ _ _ _ _ _ _ _ _ _ _ _ _ _ w whole (within g old b n _ _ _ _ _ _ s h _ c.requires.0) _ c.highest-q.ensures _ c.tag_of-tag.ensures _ (rest-is _ _ c.highest-q.ensures) c.args.task.now.fresh.now ag c.fresh_on-new.result (c.fresh_on-new.ensures ∙ ap (λ (a : ℕ). get_or c.args.task.now.fresh.now a 0) (below-is g old b n _ _ _ _ _ _ s h _ c.requires.0)) c.older_below-passing.result c.older_below-passing.ensures _ _ c.in-Some.ensures.skipped (omega (arith, c.in-Some.ensures.skipped.within, c.loop-found.invariant.1.within, c.end_at-end.ensures.upper_bound)) (ends-below g old b n _ _ _ _ _ _ s h _ c.requires.0 _ pl _ _ w.fit.small w.fit.some c.highest-q.ensures _ (c.end_at-end.ensures.by_index _)) c.in-Some.ensures.within (below-small g old b n _ _ _ _ _ _ s h _ c.requires.0 _ pl) _ refl c.if-rest-eq0.true c.still_late-still.result c.still_late-still.ensures))) refl)
 
 pub pass_states-loop-found-smaller-then-rest-eq0 : goal.pass_states-loop-found-smaller-then-rest-eq0
 pass_states-loop-found-smaller-then-rest-eq0 t c = falls-here _ _ _ _ _ c.in-Some.ensures.skipped.after (omega (arith, c.in-Some.ensures.within, c.end_at-end.ensures.upper_bound))
 
 pub pass_states-loop-found-preserved-then-rest-eq0 : goal.pass_states-loop-found-preserved-then-rest-eq0
-pass_states-loop-found-preserved-then-rest-eq0 t c = (c.in_ok-filled.ensures.table_len_unchanged ∙ c.loop-found.invariant.0, c.in_ok-filled.ensures.memo_len_unchanged ∙ c.loop-found.invariant.1, λ h. omega (arith, c.loop-found.invariant.0, c.in_ok-filled.ensures.within (omega (arith, c.loop-found.invariant.0, c.loop-found.invariant.2 h))), bounded_at _ _ _ _ _ _ _ _ c.loop-found.invariant.3 _ (omega (arith, c.in-Some.ensures.within, c.end_at-end.ensures.upper_bound)), λ g old b n s h pl ag li whole small past. let w = c.loop-found.invariant.4 g old b n s h pl ag li whole small past in walk-takes g old b n _ _ _ _ s _ _ _ _ _ _ _ _ _ _ _ _ _ _ w whole (within g old b n _ _ _ _ _ _ s h _ c.requires.0) _ c.highest-q.ensures _ c.tag_of-tag.ensures _ (rest-is _ _ c.highest-q.ensures) c.args.task.now.fresh.now ag c.fresh_on-new.result (c.fresh_on-new.ensures ∙ ap (λ (a : ℕ). get_or c.args.task.now.fresh.now a 0) (below-is g old b n _ _ _ _ _ _ s h _ c.requires.0)) c.older_below-passing.result c.older_below-passing.ensures _ _ c.in-Some.ensures.skipped (omega (arith, c.in-Some.ensures.skipped.within, c.loop-found.invariant.3.within, c.end_at-end.ensures.upper_bound)) (ends-below g old b n _ _ _ _ _ _ s h _ c.requires.0 _ pl _ _ w.fit.small w.fit.some c.highest-q.ensures _ (c.end_at-end.ensures.by_index _)) c.in-Some.ensures.within (below-small g old b n _ _ _ _ _ _ s h _ c.requires.0 _ pl) _ refl c.if-rest-eq0.true _ _ _ (c.in_ok-filled.ensures.finished g old b n w.now w.entered pl ag li whole (word-adds g old b n _ _ _ _ _ _ w.now w.entered c.in-Some.found c.loop-found.union (omega (arith, c.in-Some.ensures.within, c.end_at-end.ensures.upper_bound))) (past-last g old b n _ _ _ _ s _ _ _ _ _ _ _ _ _ _ _ _ _ _ w whole (within g old b n _ _ _ _ _ _ s h _ c.requires.0) _ c.highest-q.ensures _ c.tag_of-tag.ensures _ (rest-is _ _ c.highest-q.ensures) c.args.task.now.fresh.now ag c.fresh_on-new.result (c.fresh_on-new.ensures ∙ ap (λ (a : ℕ). get_or c.args.task.now.fresh.now a 0) (below-is g old b n _ _ _ _ _ _ s h _ c.requires.0)) c.older_below-passing.result c.older_below-passing.ensures _ _ c.in-Some.ensures.skipped (omega (arith, c.in-Some.ensures.skipped.within, c.loop-found.invariant.3.within, c.end_at-end.ensures.upper_bound)) (ends-below g old b n _ _ _ _ _ _ s h _ c.requires.0 _ pl _ _ w.fit.small w.fit.some c.highest-q.ensures _ (c.end_at-end.ensures.by_index _)) c.in-Some.ensures.within (below-small g old b n _ _ _ _ _ _ s h _ c.requires.0 _ pl) _ refl c.if-rest-eq0.true c.still_late-still.result c.still_late-still.ensures)))
+pass_states-loop-found-preserved-then-rest-eq0 t c = (λ h. omega (arith, c.in_ok-filled.ensures.within (c.loop-found.invariant.0 (omega arith)), h), bounded_at _ _ _ _ _ _ _ _ c.loop-found.invariant.1 _ (omega (arith, c.in-Some.ensures.within, c.end_at-end.ensures.upper_bound)), λ g old b n s h pl ag li whole small past. let w = c.loop-found.invariant.2 g old b n s h pl ag li whole small past in walk-takes g old b n _ _ _ _ s _ _ _ _ _ _ _ _ _ _ _ _ _ _ w whole (within g old b n _ _ _ _ _ _ s h _ c.requires.0) _ c.highest-q.ensures _ c.tag_of-tag.ensures _ (rest-is _ _ c.highest-q.ensures) c.args.task.now.fresh.now ag c.fresh_on-new.result (c.fresh_on-new.ensures ∙ ap (λ (a : ℕ). get_or c.args.task.now.fresh.now a 0) (below-is g old b n _ _ _ _ _ _ s h _ c.requires.0)) c.older_below-passing.result c.older_below-passing.ensures _ _ c.in-Some.ensures.skipped (omega (arith, c.in-Some.ensures.skipped.within, c.loop-found.invariant.1.within, c.end_at-end.ensures.upper_bound)) (ends-below g old b n _ _ _ _ _ _ s h _ c.requires.0 _ pl _ _ w.fit.small w.fit.some c.highest-q.ensures _ (c.end_at-end.ensures.by_index _)) c.in-Some.ensures.within (below-small g old b n _ _ _ _ _ _ s h _ c.requires.0 _ pl) _ refl c.if-rest-eq0.true _ _ _ (c.in_ok-filled.ensures.finished g old b n w.now w.entered pl ag li whole (word-adds g old b n _ _ _ _ _ _ w.now w.entered c.in-Some.found c.loop-found.union (omega (arith, c.in-Some.ensures.within, c.end_at-end.ensures.upper_bound))) (past-last g old b n _ _ _ _ s _ _ _ _ _ _ _ _ _ _ _ _ _ _ w whole (within g old b n _ _ _ _ _ _ s h _ c.requires.0) _ c.highest-q.ensures _ c.tag_of-tag.ensures _ (rest-is _ _ c.highest-q.ensures) c.args.task.now.fresh.now ag c.fresh_on-new.result (c.fresh_on-new.ensures ∙ ap (λ (a : ℕ). get_or c.args.task.now.fresh.now a 0) (below-is g old b n _ _ _ _ _ _ s h _ c.requires.0)) c.older_below-passing.result c.older_below-passing.ensures _ _ c.in-Some.ensures.skipped (omega (arith, c.in-Some.ensures.skipped.within, c.loop-found.invariant.1.within, c.end_at-end.ensures.upper_bound)) (ends-below g old b n _ _ _ _ _ _ s h _ c.requires.0 _ pl _ _ w.fit.small w.fit.some c.highest-q.ensures _ (c.end_at-end.ensures.by_index _)) c.in-Some.ensures.within (below-small g old b n _ _ _ _ _ _ s h _ c.requires.0 _ pl) _ refl c.if-rest-eq0.true c.still_late-still.result c.still_late-still.ensures)))
 
 pub pass_states-offset_bounds-lefts-depth-in-loop-found : goal.pass_states-offset_bounds-lefts-depth-in-loop-found
-pass_states-offset_bounds-lefts-depth-in-loop-found t c = omega (arith, deep _ _ _ _ _ _ _ _ c.loop-found.invariant.3)
+pass_states-offset_bounds-lefts-depth-in-loop-found t c = omega (arith, deep _ _ _ _ _ _ _ _ c.loop-found.invariant.1)
 
 pub pass_states-bounds-lefts-depth-in-loop-found : goal.pass_states-bounds-lefts-depth-in-loop-found
-pass_states-bounds-lefts-depth-in-loop-found t c = omega (arith, deep _ _ _ _ _ _ _ _ c.loop-found.invariant.3, c.loop-found.invariant.3.lefts-long)
+pass_states-bounds-lefts-depth-in-loop-found t c = omega (arith, deep _ _ _ _ _ _ _ _ c.loop-found.invariant.1, c.loop-found.invariant.1.lefts-long)
 
 pub pass_states-offset_bounds-unions-depth-in-loop-found : goal.pass_states-offset_bounds-unions-depth-in-loop-found
-pass_states-offset_bounds-unions-depth-in-loop-found t c = omega (arith, deep _ _ _ _ _ _ _ _ c.loop-found.invariant.3)
+pass_states-offset_bounds-unions-depth-in-loop-found t c = omega (arith, deep _ _ _ _ _ _ _ _ c.loop-found.invariant.1)
 
 pub pass_states-bounds-unions-depth-in-loop-found : goal.pass_states-bounds-unions-depth-in-loop-found
-pass_states-bounds-unions-depth-in-loop-found t c = omega (arith, deep _ _ _ _ _ _ _ _ c.loop-found.invariant.3, c.loop-found.invariant.3.unions-long)
+pass_states-bounds-unions-depth-in-loop-found t c = omega (arith, deep _ _ _ _ _ _ _ _ c.loop-found.invariant.1, c.loop-found.invariant.1.unions-long)
 
 pub pass_states-offset_bounds-nexts-depth-in-loop-found : goal.pass_states-offset_bounds-nexts-depth-in-loop-found
-pass_states-offset_bounds-nexts-depth-in-loop-found t c = omega (arith, deep _ _ _ _ _ _ _ _ c.loop-found.invariant.3)
+pass_states-offset_bounds-nexts-depth-in-loop-found t c = omega (arith, deep _ _ _ _ _ _ _ _ c.loop-found.invariant.1)
 
 pub pass_states-bounds-nexts-depth-in-loop-found : goal.pass_states-bounds-nexts-depth-in-loop-found
-pass_states-bounds-nexts-depth-in-loop-found t c = omega (arith, deep _ _ _ _ _ _ _ _ c.loop-found.invariant.3, c.loop-found.invariant.3.nexts-long)
+pass_states-bounds-nexts-depth-in-loop-found t c = omega (arith, deep _ _ _ _ _ _ _ _ c.loop-found.invariant.1, c.loop-found.invariant.1.nexts-long)
 
 pub pass_states-offset_bounds-limits-depth-in-loop-found : goal.pass_states-offset_bounds-limits-depth-in-loop-found
-pass_states-offset_bounds-limits-depth-in-loop-found t c = omega (arith, deep _ _ _ _ _ _ _ _ c.loop-found.invariant.3)
+pass_states-offset_bounds-limits-depth-in-loop-found t c = omega (arith, deep _ _ _ _ _ _ _ _ c.loop-found.invariant.1)
 
 pub pass_states-bounds-limits-depth-in-loop-found : goal.pass_states-bounds-limits-depth-in-loop-found
-pass_states-bounds-limits-depth-in-loop-found t c = omega (arith, deep _ _ _ _ _ _ _ _ c.loop-found.invariant.3, c.loop-found.invariant.3.limits-long)
+pass_states-bounds-limits-depth-in-loop-found t c = omega (arith, deep _ _ _ _ _ _ _ _ c.loop-found.invariant.1, c.loop-found.invariant.1.limits-long)
 
 pub pass_states-overflow_add-depth : goal.pass_states-overflow_add-depth
-pass_states-overflow_add-depth t c = omega (arith, deep _ _ _ _ _ _ _ _ c.loop-found.invariant.3)
+pass_states-overflow_add-depth t c = omega (arith, deep _ _ _ _ _ _ _ _ c.loop-found.invariant.1)
 
 pub pass_states-loop-found-smaller : goal.pass_states-loop-found-smaller
-pass_states-loop-found-smaller t c = falls-after _ _ _ _ _ _ (deep _ _ _ _ _ _ _ _ c.loop-found.invariant.3) c.loop-found.invariant.3.nexts-long c.in-Some.ensures.skipped.after (omega (arith, c.in-Some.ensures.within, c.end_at-end.ensures.upper_bound))
+pass_states-loop-found-smaller t c = falls-after _ _ _ _ _ _ (deep _ _ _ _ _ _ _ _ c.loop-found.invariant.1) c.loop-found.invariant.1.nexts-long c.in-Some.ensures.skipped.after (omega (arith, c.in-Some.ensures.within, c.end_at-end.ensures.upper_bound))
 
 pub pass_states-loop-found-preserved : goal.pass_states-loop-found-preserved
-pass_states-loop-found-preserved t c = (c.loop-found.invariant.0, c.loop-found.invariant.1, c.loop-found.invariant.2, bounded-after _ _ _ _ _ _ _ _ c.loop-found.invariant.3 _ c.highest-q.ensures _ _ _ _ _ (rest-is _ _ c.highest-q.ensures) c.if-rest-eq0.false (omega (arith, c.in-Some.ensures.within, c.end_at-end.ensures.upper_bound)) c.start_at-i-in-loop-found.ensures.upper_bound, λ g old b n s h pl ag li whole small past. let w = c.loop-found.invariant.4 g old b n s h pl ag li whole small past in walk-opens g old b n _ _ _ _ s _ _ _ _ _ _ _ _ _ _ _ _ _ _ w whole (within g old b n _ _ _ _ _ _ s h _ c.requires.0) _ c.highest-q.ensures _ c.tag_of-tag.ensures _ (rest-is _ _ c.highest-q.ensures) c.args.task.now.fresh.now ag c.fresh_on-new.result (c.fresh_on-new.ensures ∙ ap (λ (a : ℕ). get_or c.args.task.now.fresh.now a 0) (below-is g old b n _ _ _ _ _ _ s h _ c.requires.0)) c.older_below-passing.result c.older_below-passing.ensures _ _ c.in-Some.ensures.skipped (omega (arith, c.in-Some.ensures.skipped.within, c.loop-found.invariant.3.within, c.end_at-end.ensures.upper_bound)) (ends-below g old b n _ _ _ _ _ _ s h _ c.requires.0 _ pl _ _ w.fit.small w.fit.some c.highest-q.ensures _ (c.end_at-end.ensures.by_index _)) c.in-Some.ensures.within (below-small g old b n _ _ _ _ _ _ s h _ c.requires.0 _ pl) _ refl c.if-rest-eq0.false (deep _ _ _ _ _ _ _ _ c.loop-found.invariant.3) c.loop-found.invariant.3.lefts-long c.loop-found.invariant.3.unions-long c.loop-found.invariant.3.nexts-long c.loop-found.invariant.3.limits-long _ _ c.highest-in-loop-found.ensures (starts-below g old b n _ _ _ _ _ _ s h _ c.requires.0 _ pl _ _ (rest_below _ _ _ _ w.fit.small (rest-is _ _ c.highest-q.ensures) w.fit.some c.highest-q.ensures) (omega (arith, c.if-rest-eq0.false)) c.highest-in-loop-found.ensures _ (c.start_at-i-in-loop-found.ensures.by_index _)) c.still_late-still.result c.still_late-still.ensures)
+pass_states-loop-found-preserved t c = (c.loop-found.invariant.0, bounded-after _ _ _ _ _ _ _ _ c.loop-found.invariant.1 _ c.highest-q.ensures _ _ _ _ _ (rest-is _ _ c.highest-q.ensures) c.if-rest-eq0.false (omega (arith, c.in-Some.ensures.within, c.end_at-end.ensures.upper_bound)) c.start_at-i-in-loop-found.ensures.upper_bound, λ g old b n s h pl ag li whole small past. let w = c.loop-found.invariant.2 g old b n s h pl ag li whole small past in walk-opens g old b n _ _ _ _ s _ _ _ _ _ _ _ _ _ _ _ _ _ _ w whole (within g old b n _ _ _ _ _ _ s h _ c.requires.0) _ c.highest-q.ensures _ c.tag_of-tag.ensures _ (rest-is _ _ c.highest-q.ensures) c.args.task.now.fresh.now ag c.fresh_on-new.result (c.fresh_on-new.ensures ∙ ap (λ (a : ℕ). get_or c.args.task.now.fresh.now a 0) (below-is g old b n _ _ _ _ _ _ s h _ c.requires.0)) c.older_below-passing.result c.older_below-passing.ensures _ _ c.in-Some.ensures.skipped (omega (arith, c.in-Some.ensures.skipped.within, c.loop-found.invariant.1.within, c.end_at-end.ensures.upper_bound)) (ends-below g old b n _ _ _ _ _ _ s h _ c.requires.0 _ pl _ _ w.fit.small w.fit.some c.highest-q.ensures _ (c.end_at-end.ensures.by_index _)) c.in-Some.ensures.within (below-small g old b n _ _ _ _ _ _ s h _ c.requires.0 _ pl) _ refl c.if-rest-eq0.false (deep _ _ _ _ _ _ _ _ c.loop-found.invariant.1) c.loop-found.invariant.1.lefts-long c.loop-found.invariant.1.unions-long c.loop-found.invariant.1.nexts-long c.loop-found.invariant.1.limits-long _ _ c.highest-in-loop-found.ensures (starts-below g old b n _ _ _ _ _ _ s h _ c.requires.0 _ pl _ _ (rest_below _ _ _ _ w.fit.small (rest-is _ _ c.highest-q.ensures) w.fit.some c.highest-q.ensures) (omega (arith, c.if-rest-eq0.false)) c.highest-in-loop-found.ensures _ (c.start_at-i-in-loop-found.ensures.by_index _)) c.still_late-still.result c.still_late-still.ensures)
 
 pub rules_after-returns-then-older_below-gt0-clause-finished : goal.rules_after-returns-then-older_below-gt0-clause-finished
 rules_after-returns-then-older_below-gt0-clause-finished t c =
@@ -121,7 +121,7 @@ rules_after-returns-clause-finished t c =
     λ g old b n s h pl ag li whole some past. notes g old b n _ _ _ _ _ _ s h _ _ _ _ whole c.requires c.tag_of-tag.ensures _ _ _ _ (none-of-it g old b n _ _ _ _ _ _ s h _ _ (c.rules_from-filled.ensures.finished g old b n s h pl ag li (later g _ _ whole) some (past-rest g old b n _ _ _ _ _ _ s h _ _ _ past))) c.finish.ensures
 
 pub rules_by-loop-i-init : goal.rules_by-loop-i-init
-rules_by-loop-i-init t c = (refl, refl, λ h. h, omega (arith, c.list_start-i.ensures), λ g old b n s h pl ag li whole. list-starts c.args.lists.now.sets.now c.args.lists.now.spans.now c.args.r g old b n _ _ _ c.args.union _ _ _ s h _ c.list_start-i.ensures)
+rules_by-loop-i-init t c = (λ h. h, omega (arith, c.list_start-i.ensures), λ g old b n s h pl ag li whole. list-starts c.args.lists.now.sets.now c.args.lists.now.spans.now c.args.r g old b n _ _ _ c.args.union _ _ _ s h _ c.list_start-i.ensures)
 
 pub rules_by-rules_after-requires : goal.rules_by-rules_after-requires
 rules_by-rules_after-requires t c = (omega arith, c.requires)
@@ -129,14 +129,14 @@ rules_by-rules_after-requires t c = (omega arith, c.requires)
 pub rules_by-returns-in_err-filled-clause-finished : goal.rules_by-returns-in_err-filled-clause-finished
 rules_by-returns-in_err-filled-clause-finished t c =
     rw c.from_residual.ensures
-    (λ g old b n s h pl ag li whole listed. let k = c.loop-i.invariant.4 g old b n s h pl ag li whole in list_over c.args.lists.now.sets.now c.args.lists.now.spans.now c.args.r g old b n _ _ _ c.args.union s (c.loop-i.i + 1) _ _ _ (list-next c.args.lists.now.sets.now c.args.lists.now.spans.now c.args.r g old b n _ _ _ c.args.union s c.loop-i.i _ _ _ k c.loop-i.invariant.3 (omega (arith, c.loop-i-test.true, c.list_end-end.ensures)) _ _ _ (c.in_err-filled.ensures.finished g old b n k.now k.entered pl ag li whole (adds c.args.lists.now.sets.now c.args.lists.now.spans.now c.args.r g old li (omega (arith, h.stands.last, c.requires)) c.loop-i.i c.loop-i.invariant.3 (omega (arith, c.loop-i-test.true, c.list_end-end.ensures)) c.args.union) (λ none. absurd (omega (arith, none))))) refl)
+    (λ g old b n s h pl ag li whole listed. let k = c.loop-i.invariant.2 g old b n s h pl ag li whole in list_over c.args.lists.now.sets.now c.args.lists.now.spans.now c.args.r g old b n _ _ _ c.args.union s (c.loop-i.i + 1) _ _ _ (list-next c.args.lists.now.sets.now c.args.lists.now.spans.now c.args.r g old b n _ _ _ c.args.union s c.loop-i.i _ _ _ k c.loop-i.invariant.1 (omega (arith, c.loop-i-test.true, c.list_end-end.ensures)) _ _ _ (c.in_err-filled.ensures.finished g old b n k.now k.entered pl ag li whole (adds c.args.lists.now.sets.now c.args.lists.now.spans.now c.args.r g old li (omega (arith, h.stands.last, c.requires)) c.loop-i.i c.loop-i.invariant.1 (omega (arith, c.loop-i-test.true, c.list_end-end.ensures)) c.args.union) (λ none. absurd (omega (arith, none))))) refl)
 
 pub rules_by-loop-i-preserved : goal.rules_by-loop-i-preserved
-rules_by-loop-i-preserved t c = (c.in_ok-filled.ensures.table_len_unchanged ∙ c.loop-i.invariant.0, c.in_ok-filled.ensures.memo_len_unchanged ∙ c.loop-i.invariant.1, λ h. omega (arith, c.loop-i.invariant.0, c.in_ok-filled.ensures.within (omega (arith, c.loop-i.invariant.0, c.loop-i.invariant.2 h))), omega (arith, c.loop-i.invariant.3), λ g old b n s h pl ag li whole. let k = c.loop-i.invariant.4 g old b n s h pl ag li whole in list-next c.args.lists.now.sets.now c.args.lists.now.spans.now c.args.r g old b n _ _ _ c.args.union s c.loop-i.i _ _ _ k c.loop-i.invariant.3 (omega (arith, c.loop-i-test.true, c.list_end-end.ensures)) _ _ _ (c.in_ok-filled.ensures.finished g old b n k.now k.entered pl ag li whole (adds c.args.lists.now.sets.now c.args.lists.now.spans.now c.args.r g old li (omega (arith, h.stands.last, c.requires)) c.loop-i.i c.loop-i.invariant.3 (omega (arith, c.loop-i-test.true, c.list_end-end.ensures)) c.args.union) (λ none. absurd (omega (arith, none)))))
+rules_by-loop-i-preserved t c = (λ h. omega (arith, c.in_ok-filled.ensures.within (c.loop-i.invariant.0 (omega arith)), h), omega (arith, c.loop-i.invariant.1), λ g old b n s h pl ag li whole. let k = c.loop-i.invariant.2 g old b n s h pl ag li whole in list-next c.args.lists.now.sets.now c.args.lists.now.spans.now c.args.r g old b n _ _ _ c.args.union s c.loop-i.i _ _ _ k c.loop-i.invariant.1 (omega (arith, c.loop-i-test.true, c.list_end-end.ensures)) _ _ _ (c.in_ok-filled.ensures.finished g old b n k.now k.entered pl ag li whole (adds c.args.lists.now.sets.now c.args.lists.now.spans.now c.args.r g old li (omega (arith, h.stands.last, c.requires)) c.loop-i.i c.loop-i.invariant.1 (omega (arith, c.loop-i-test.true, c.list_end-end.ensures)) c.args.union) (λ none. absurd (omega (arith, none)))))
 
 pub rules_by-returns-clause-finished : goal.rules_by-returns-clause-finished
 rules_by-returns-clause-finished t c =
-    λ g old b n s h pl ag li whole listed. list-ends c.args.lists.now.sets.now c.args.lists.now.spans.now c.args.r g old b n _ _ _ c.args.union s c.loop-i.i _ _ _ (c.loop-i.invariant.4 g old b n s h pl ag li whole) (omega (arith, c.loop-i-test.false, c.list_end-end.ensures))
+    λ g old b n s h pl ag li whole listed. list-ends c.args.lists.now.sets.now c.args.lists.now.spans.now c.args.r g old b n _ _ _ c.args.union s c.loop-i.i _ _ _ (c.loop-i.invariant.2 g old b n s h pl ag li whole) (omega (arith, c.loop-i-test.false, c.list_end-end.ensures))
 
 pub rules_from-returns-in_default-clause-finished : goal.rules_from-returns-in_default-clause-finished
 rules_from-returns-in_default-clause-finished t c =
@@ -157,7 +157,7 @@ rules_from-returns-then-is_listed-clause-finished t c =
     λ g old b n s h pl ag li late some past. let listed = c.is_listed.ensures c.if-is_listed.true in listed-first g old b n _ _ _ _ _ _ s h _ c.args.union _ c.in-Some.ensures.next c.in-Some.ensures.within _ _ li listed (c.rules_by.ensures.finished g old b n s h pl ag li (job_of g old b n _ _ _ _ _ _ s h _ c.args.union _ c.in-Some.ensures.next c.in-Some.ensures.within late) listed)
 
 pub rules_from-loop-i-init : goal.rules_from-loop-i-init
-rules_from-loop-i-init t c = (refl, refl, λ h. h, λ g old b n s h pl ag li late past. scan-from g old b n _ _ _ _ _ _ (begins-nothing g old _ _ _ _ c.args.union _ _ (to_is g old b n _ _ _ _ _ _ s h _ c.in-Some.ensures.within) (above-is g old b n _ _ _ _ _ _ s h _ c.in-Some.ensures.within)) _ _ _ s h _ (c.start_at-i.ensures.by_index _ (above-placed g old b n _ _ _ _ _ _ s h _ c.in-Some.ensures.within _ pl)))
+rules_from-loop-i-init t c = (λ h. h, λ g old b n s h pl ag li late past. scan-from g old b n _ _ _ _ _ _ (begins-nothing g old _ _ _ _ c.args.union _ _ (to_is g old b n _ _ _ _ _ _ s h _ c.in-Some.ensures.within) (above-is g old b n _ _ _ _ _ _ s h _ c.in-Some.ensures.within)) _ _ _ s h _ (c.start_at-i.ensures.by_index _ (above-placed g old b n _ _ _ _ _ _ s h _ c.in-Some.ensures.within _ pl)))
 
 pub rules_from-runs_with-requires : goal.rules_from-runs_with-requires
 rules_from-runs_with-requires t c = (omega (arith, c.in-Some.ensures.next.after, c.in-Some.ensures.within), (c.in-Some.ensures.within, omega (arith, c.loop-i-test.true, c.end_at-end.ensures.upper_bound)))
@@ -165,14 +165,14 @@ rules_from-runs_with-requires t c = (omega (arith, c.in-Some.ensures.next.after,
 pub rules_from-returns-in_err-filled-clause-finished : goal.rules_from-returns-in_err-filled-clause-finished
 rules_from-returns-in_err-filled-clause-finished t c =
     rw c.from_residual.ensures
-    (λ g old b n s h pl ag li late some past. let l = c.in-Some.ensures.within in writes-first g old b n _ _ _ _ _ _ s h _ _ _ c.in-Some.ensures.next l (λ z. c.if-task-at-eq0.false (count-is g old b n _ _ _ _ _ _ s h _ l ∙ z)) (let k = c.loop-i.invariant.3 g old b n s h pl ag li late past in none-fits g old b n _ _ _ _ _ s _ _ _ _ (scan-next g old b n _ _ _ _ s _ _ _ _ k (omega (arith, c.loop-i-test.true, c.end_at-end.ensures.upper_bound)) _ _ _ (begun g old b n _ _ _ _ _ _ k.now k.entered _ _ _ (c.in_err-filled.ensures.finished g old b n k.now k.entered pl ag li (job_of g old b n _ _ _ _ _ _ s h _ c.args.union _ c.in-Some.ensures.next c.in-Some.ensures.within late) (λ some. let p = past-writes g old b n _ _ _ _ _ _ s h _ c.args.union _ c.in-Some.ensures.next c.in-Some.ensures.within _ past (λ z. c.if-task-at-eq0.false (count-is g old b n _ _ _ _ _ _ s h _ c.in-Some.ensures.within ∙ z)) some in (p.0, k.kept _ p.1))))) refl))
+    (λ g old b n s h pl ag li late some past. let l = c.in-Some.ensures.within in writes-first g old b n _ _ _ _ _ _ s h _ _ _ c.in-Some.ensures.next l (λ z. c.if-task-at-eq0.false (count-is g old b n _ _ _ _ _ _ s h _ l ∙ z)) (let k = c.loop-i.invariant.1 g old b n s h pl ag li late past in none-fits g old b n _ _ _ _ _ s _ _ _ _ (scan-next g old b n _ _ _ _ s _ _ _ _ k (omega (arith, c.loop-i-test.true, c.end_at-end.ensures.upper_bound)) _ _ _ (begun g old b n _ _ _ _ _ _ k.now k.entered _ _ _ (c.in_err-filled.ensures.finished g old b n k.now k.entered pl ag li (job_of g old b n _ _ _ _ _ _ s h _ c.args.union _ c.in-Some.ensures.next c.in-Some.ensures.within late) (λ some. let p = past-writes g old b n _ _ _ _ _ _ s h _ c.args.union _ c.in-Some.ensures.next c.in-Some.ensures.within _ past (λ z. c.if-task-at-eq0.false (count-is g old b n _ _ _ _ _ _ s h _ c.in-Some.ensures.within ∙ z)) some in (p.0, k.kept _ p.1))))) refl))
 
 pub rules_from-loop-i-preserved : goal.rules_from-loop-i-preserved
-rules_from-loop-i-preserved t c = (c.in_ok-filled.ensures.table_len_unchanged ∙ c.loop-i.invariant.0, c.in_ok-filled.ensures.memo_len_unchanged ∙ c.loop-i.invariant.1, λ h. omega (arith, c.loop-i.invariant.0, c.in_ok-filled.ensures.within (omega (arith, c.loop-i.invariant.0, c.loop-i.invariant.2 h))), λ g old b n s h pl ag li late past. let k = c.loop-i.invariant.3 g old b n s h pl ag li late past in scan-next g old b n _ _ _ _ s _ _ _ _ k (omega (arith, c.loop-i-test.true, c.end_at-end.ensures.upper_bound)) _ _ _ (begun g old b n _ _ _ _ _ _ k.now k.entered _ _ _ (c.in_ok-filled.ensures.finished g old b n k.now k.entered pl ag li (job_of g old b n _ _ _ _ _ _ s h _ c.args.union _ c.in-Some.ensures.next c.in-Some.ensures.within late) (λ some. let p = past-writes g old b n _ _ _ _ _ _ s h _ c.args.union _ c.in-Some.ensures.next c.in-Some.ensures.within _ past (λ z. c.if-task-at-eq0.false (count-is g old b n _ _ _ _ _ _ s h _ c.in-Some.ensures.within ∙ z)) some in (p.0, k.kept _ p.1)))))
+rules_from-loop-i-preserved t c = (λ h. omega (arith, c.in_ok-filled.ensures.within (c.loop-i.invariant.0 (omega arith)), h), λ g old b n s h pl ag li late past. let k = c.loop-i.invariant.1 g old b n s h pl ag li late past in scan-next g old b n _ _ _ _ s _ _ _ _ k (omega (arith, c.loop-i-test.true, c.end_at-end.ensures.upper_bound)) _ _ _ (begun g old b n _ _ _ _ _ _ k.now k.entered _ _ _ (c.in_ok-filled.ensures.finished g old b n k.now k.entered pl ag li (job_of g old b n _ _ _ _ _ _ s h _ c.args.union _ c.in-Some.ensures.next c.in-Some.ensures.within late) (λ some. let p = past-writes g old b n _ _ _ _ _ _ s h _ c.args.union _ c.in-Some.ensures.next c.in-Some.ensures.within _ past (λ z. c.if-task-at-eq0.false (count-is g old b n _ _ _ _ _ _ s h _ c.in-Some.ensures.within ∙ z)) some in (p.0, k.kept _ p.1)))))
 
 pub rules_from-returns-clause-finished : goal.rules_from-returns-clause-finished
 rules_from-returns-clause-finished t c =
-    λ g old b n s h pl ag li late some past. let l = c.in-Some.ensures.within in writes-first g old b n _ _ _ _ _ _ s h _ _ _ c.in-Some.ensures.next l (λ z. c.if-task-at-eq0.false (count-is g old b n _ _ _ _ _ _ s h _ l ∙ z)) (scan-to g old b n _ _ _ _ _ _ (begins-nothing g old _ _ _ _ c.args.union _ _ (to_is g old b n _ _ _ _ _ _ s h _ c.in-Some.ensures.within) (above-is g old b n _ _ _ _ _ _ s h _ c.in-Some.ensures.within)) s _ _ _ _ (c.loop-i.invariant.3 g old b n s h pl ag li late past) _ (c.end_at-end.ensures.by_index _ (above-placed g old b n _ _ _ _ _ _ s h _ l _ pl)) c.loop-i-test.false)
+    λ g old b n s h pl ag li late some past. let l = c.in-Some.ensures.within in writes-first g old b n _ _ _ _ _ _ s h _ _ _ c.in-Some.ensures.next l (λ z. c.if-task-at-eq0.false (count-is g old b n _ _ _ _ _ _ s h _ l ∙ z)) (scan-to g old b n _ _ _ _ _ _ (begins-nothing g old _ _ _ _ c.args.union _ _ (to_is g old b n _ _ _ _ _ _ s h _ c.in-Some.ensures.within) (above-is g old b n _ _ _ _ _ _ s h _ c.in-Some.ensures.within)) s _ _ _ _ (c.loop-i.invariant.1 g old b n s h pl ag li late past) _ (c.end_at-end.ensures.by_index _ (above-placed g old b n _ _ _ _ _ _ s h _ l _ pl)) c.loop-i-test.false)
 
 pub runs_with-returns-then-state-task-clause-finished : goal.runs_with-returns-then-state-task-clause-finished
 runs_with-returns-then-state-task-clause-finished t c =

@@ -46,13 +46,13 @@ abbrev pub decreases-runs_with : goal.decreases-runs_with
 decreases-runs_with l = (l.task.now.job.end - l.r) * 4 + 2
 
 abbrev pub invariant-pass_states-loop-found : goal.invariant-pass_states-loop-found
-invariant-pass_states-loop-found l = (length l.table ≡ length l.initial.table) × (length l.memo ≡ length l.initial.memo) × (l.count * 3 ≤ length l.initial.table → l.filled * 3 ≤ length l.initial.table) × Bounded l.lefts l.unions l.nexts l.limits l.task.job.count l.depth l.left l.i × ((g : PushdownGame) (old : List Entry) (birthdate n : ℕ) (s : Growing) → Entered g old birthdate n l.task.job l.task.rules.now l.task.work.now l.initial.table l.count l.initial.memo s → Placing g l.task.work.now l.task.job.count l.task.places.now → Aging g old birthdate l.task.job l.task.fresh.now → Listed g old l.lists.sets.now l.lists.spans.now → Whole g l.task.job l.r → l.set < 2 ^ g.states → Past birthdate n l.late (earlier g old birthdate n l.task.job l.task.rules.now l.task.work.now l.r l.set l.reached) s → Walking g old birthdate n l.task.job l.task.rules.now l.task.work.now l.r s l.set l.reached l.lefts l.unions l.nexts l.limits l.depth l.left l.union l.i l.limit l.table l.filled l.memo)
+invariant-pass_states-loop-found l = (l.count * 3 ≤ length l.table → l.filled * 3 ≤ length l.table) × Bounded l.lefts l.unions l.nexts l.limits l.task.job.count l.depth l.left l.i × ((g : PushdownGame) (old : List Entry) (birthdate n : ℕ) (s : Growing) → Entered g old birthdate n l.task.job l.task.rules.now l.task.work.now l.initial.table l.count l.initial.memo s → Placing g l.task.work.now l.task.job.count l.task.places.now → Aging g old birthdate l.task.job l.task.fresh.now → Listed g old l.lists.sets.now l.lists.spans.now → Whole g l.task.job l.r → l.set < 2 ^ g.states → Past birthdate n l.late (earlier g old birthdate n l.task.job l.task.rules.now l.task.work.now l.r l.set l.reached) s → Walking g old birthdate n l.task.job l.task.rules.now l.task.work.now l.r s l.set l.reached l.lefts l.unions l.nexts l.limits l.depth l.left l.union l.i l.limit l.table l.filled l.memo)
 
 abbrev pub decreases-pass_states-loop-found : goal.decreases-pass_states-loop-found
 decreases-pass_states-loop-found l = remaining l.nexts l.task.job.count l.depth l.i
 
 abbrev pub invariant-rules_by-loop-i : goal.invariant-rules_by-loop-i
-invariant-rules_by-loop-i l = (length l.table ≡ length l.initial.table) × (length l.memo ≡ length l.initial.memo) × (l.count * 3 ≤ length l.initial.table → l.filled * 3 ≤ length l.initial.table) × (start_of l.lists.spans.now l.r ≤ l.i) × ((g : PushdownGame) (old : List Entry) (birthdate n : ℕ) (s : Growing) → Entered g old birthdate n l.task.job l.task.rules.now l.task.work.now l.initial.table l.count l.initial.memo s → Placing g l.task.work.now l.task.job.count l.task.places.now → Aging g old birthdate l.task.job l.task.fresh.now → Listed g old l.lists.sets.now l.lists.spans.now → Whole g l.task.job l.r → Coming l.lists.sets.now l.lists.spans.now l.r g old birthdate n l.task.job l.task.rules.now l.task.work.now l.union s l.i l.table l.filled l.memo)
+invariant-rules_by-loop-i l = (l.count * 3 ≤ length l.table → l.filled * 3 ≤ length l.table) × (start_of l.lists.spans.now l.r ≤ l.i) × ((g : PushdownGame) (old : List Entry) (birthdate n : ℕ) (s : Growing) → Entered g old birthdate n l.task.job l.task.rules.now l.task.work.now l.initial.table l.count l.initial.memo s → Placing g l.task.work.now l.task.job.count l.task.places.now → Aging g old birthdate l.task.job l.task.fresh.now → Listed g old l.lists.sets.now l.lists.spans.now → Whole g l.task.job l.r → Coming l.lists.sets.now l.lists.spans.now l.r g old birthdate n l.task.job l.task.rules.now l.task.work.now l.union s l.i l.table l.filled l.memo)
 
 abbrev pub invariant-rules_from-loop-i : goal.invariant-rules_from-loop-i
-invariant-rules_from-loop-i l = (length l.table ≡ length l.initial.table) × (length l.memo ≡ length l.initial.memo) × (l.count * 3 ≤ length l.initial.table → l.filled * 3 ≤ length l.initial.table) × ((g : PushdownGame) (old : List Entry) (birthdate n : ℕ) (s : Growing) → Entered g old birthdate n l.task.job l.task.rules.now l.task.work.now l.initial.table l.count l.initial.memo s → Placing g l.task.work.now l.task.job.count l.task.places.now → Aging g old birthdate l.task.job l.task.fresh.now → Listed g old l.lists.sets.now l.lists.spans.now → Late g l.task.job l.from → Past birthdate n l.late (map (entry_at l.task.job.state l.task.job.letter birthdate l.task.job.field) (rest_runs g (older birthdate old) (rules_between g l.task.job.state l.task.job.letter l.from l.task.job.end) l.union)) s → Scanning g old birthdate n l.task.job l.task.rules.now l.task.work.now (begin_of g old l.task.job.state l.task.job.letter l.task.job.end l.r l.union) s l.i l.table l.filled l.memo)
+invariant-rules_from-loop-i l = (l.count * 3 ≤ length l.table → l.filled * 3 ≤ length l.table) × ((g : PushdownGame) (old : List Entry) (birthdate n : ℕ) (s : Growing) → Entered g old birthdate n l.task.job l.task.rules.now l.task.work.now l.initial.table l.count l.initial.memo s → Placing g l.task.work.now l.task.job.count l.task.places.now → Aging g old birthdate l.task.job l.task.fresh.now → Listed g old l.lists.sets.now l.lists.spans.now → Late g l.task.job l.from → Past birthdate n l.late (map (entry_at l.task.job.state l.task.job.letter birthdate l.task.job.field) (rest_runs g (older birthdate old) (rules_between g l.task.job.state l.task.job.letter l.from l.task.job.end) l.union)) s → Scanning g old birthdate n l.task.job l.task.rules.now l.task.work.now (begin_of g old l.task.job.state l.task.job.letter l.task.job.end l.r l.union) s l.i l.table l.filled l.memo)

@@ -9,4 +9,4 @@ use Rattle.solver.proofs.solving.round_zero.Given as goal
 -- The transitions before place t are added (`Adding`).
 -- Assumes what the contract requires.
 abbrev pub invariant-loop-t : goal.invariant-loop-t
-invariant-loop-t l = (length l.table ≡ length l.initial.table) × (l.count * 3 ≤ length l.table) × ((g : PushdownGame) (n : ℕ) → Given g l.fn.sizes l.rules l.targets → l.initial.table ≡ replicate (n * 3) 0 → Adding g n l.t l.table l.count)
+invariant-loop-t l = (l.count * 3 ≤ length l.table) × ((g : PushdownGame) (n : ℕ) → Given g l.fn.sizes l.rules l.targets → l.initial.table ≡ replicate (n * 3) 0 → Adding g n l.t l.table l.count)

@@ -35,13 +35,13 @@ pub overflow_add-i-then-i-ge-MAX_ROUNDS : goal.overflow_add-i-then-i-ge-MAX_ROUN
 overflow_add-i-then-i-ge-MAX_ROUNDS c = omega (arith, c.loop-sizes.invariant.0)
 
 pub shape_of-table-then-i-ge-MAX_ROUNDS : goal.shape_of-table-then-i-ge-MAX_ROUNDS
-shape_of-table-then-i-ge-MAX_ROUNDS c = c.give_up.ensures.begun_len_unchanged ∙ (c.take_wide-next.ensures.table_len_unchanged ∙ c.loop-sizes.invariant.1)
+shape_of-table-then-i-ge-MAX_ROUNDS c = c.give_up.auto.begun ∙ (c.take_wide-next.auto.table ∙ c.loop-sizes.invariant.1)
 
 pub shape_of-work-then-i-ge-MAX_ROUNDS : goal.shape_of-work-then-i-ge-MAX_ROUNDS
-shape_of-work-then-i-ge-MAX_ROUNDS c = c.give_up.ensures.work_len_unchanged ∙ (c.copy_from_slice.ensures.len ∙ c.loop-sizes.invariant.2)
+shape_of-work-then-i-ge-MAX_ROUNDS c = c.give_up.auto.work ∙ (c.copy_from_slice.ensures.len ∙ c.loop-sizes.invariant.2)
 
 pub returns-then-i-ge-MAX_ROUNDS : goal.returns-then-i-ge-MAX_ROUNDS
-returns-then-i-ge-MAX_ROUNDS c = λ g n h good st. let t = c.loop-sizes.invariant.4 g n h good st in (rw c.at.ensures at c.give_up.ensures.work_after) ∙ leaving-at _ (c.take_wide-next.ensures.table_len_unchanged ∙ c.loop-sizes.invariant.1) (c.copy_from_slice.ensures.len ∙ c.loop-sizes.invariant.2) ∙ sym (turn_last g n _ _ _ t good _ _ (c.take_wide-next.ensures.filled g (round_table g c.loop-sizes.i) n h good (round-ranged g good c.loop-sizes.i).1 (subst (λ (w : List ℕ). Stored n w c.loop-sizes.count (round_table g c.loop-sizes.i)) (sym c.copy_from_slice.ensures.after) t.stored) t.stored (round-past g good n c.loop-sizes.i)) (other-number n _ c.take_wide-next.result (omega (arith, t.stored.counted, t.stored.fits)) (sym c.eq.ensures ∙ c.if-eq.false)) c.if-i-ge-MAX_ROUNDS.true _ _)
+returns-then-i-ge-MAX_ROUNDS c = λ g n h good st. let t = c.loop-sizes.invariant.4 g n h good st in (rw c.at.ensures at c.give_up.ensures.work_after) ∙ leaving-at _ (c.take_wide-next.auto.table ∙ c.loop-sizes.invariant.1) (c.copy_from_slice.ensures.len ∙ c.loop-sizes.invariant.2) ∙ sym (turn_last g n _ _ _ t good _ _ (c.take_wide-next.ensures.filled g (round_table g c.loop-sizes.i) n h good (round-ranged g good c.loop-sizes.i).1 (subst (λ (w : List ℕ). Stored n w c.loop-sizes.count (round_table g c.loop-sizes.i)) (sym c.copy_from_slice.ensures.after) t.stored) t.stored (round-past g good n c.loop-sizes.i)) (other-number n _ c.take_wide-next.result (omega (arith, t.stored.counted, t.stored.fits)) (sym c.eq.ensures ∙ c.if-eq.false)) c.if-i-ge-MAX_ROUNDS.true _ _)
 
 pub overflow_cast-i-in_default : goal.overflow_cast-i-in_default
 overflow_cast-i-in_default c = omega arith
@@ -50,7 +50,7 @@ pub overflow_add-i-in_default : goal.overflow_add-i-in_default
 overflow_add-i-in_default c = omega (arith, c.loop-sizes.invariant.0)
 
 pub returns-in_default : goal.returns-in_default
-returns-in_default c = λ g n h good st. let t = c.loop-sizes.invariant.4 g n h good st in (rw c.at-in_default.ensures at c.give_up-in_default.ensures.work_after) ∙ leaving-at _ (c.take_wide-next.ensures.table_len_unchanged ∙ c.loop-sizes.invariant.1) (c.copy_from_slice.ensures.len ∙ c.loop-sizes.invariant.2) ∙ sym (turn-full g n _ _ _ t good _ _ (c.take_wide-next.ensures.filled g (round_table g c.loop-sizes.i) n h good (round-ranged g good c.loop-sizes.i).1 (subst (λ (w : List ℕ). Stored n w c.loop-sizes.count (round_table g c.loop-sizes.i)) (sym c.copy_from_slice.ensures.after) t.stored) t.stored (round-past g good n c.loop-sizes.i)) (other-number n _ c.take_wide-next.result (omega (arith, t.stored.counted, t.stored.fits)) (sym c.eq.ensures ∙ c.if-eq.false)) c.if-i-ge-MAX_ROUNDS.false (subst (λ (r : Option ℕ). n < number_of n r) (sym c.in_default.is) (omega arith)) _ _)
+returns-in_default c = λ g n h good st. let t = c.loop-sizes.invariant.4 g n h good st in (rw c.at-in_default.ensures at c.give_up-in_default.ensures.work_after) ∙ leaving-at _ (c.take_wide-next.auto.table ∙ c.loop-sizes.invariant.1) (c.copy_from_slice.ensures.len ∙ c.loop-sizes.invariant.2) ∙ sym (turn-full g n _ _ _ t good _ _ (c.take_wide-next.ensures.filled g (round_table g c.loop-sizes.i) n h good (round-ranged g good c.loop-sizes.i).1 (subst (λ (w : List ℕ). Stored n w c.loop-sizes.count (round_table g c.loop-sizes.i)) (sym c.copy_from_slice.ensures.after) t.stored) t.stored (round-past g good n c.loop-sizes.i)) (other-number n _ c.take_wide-next.result (omega (arith, t.stored.counted, t.stored.fits)) (sym c.eq.ensures ∙ c.if-eq.false)) c.if-i-ge-MAX_ROUNDS.false (subst (λ (r : Option ℕ). n < number_of n r) (sym c.in_default.is) (omega arith)) _ _)
 
 pub overflow_add-i-in-loop-sizes : goal.overflow_add-i-in-loop-sizes
 overflow_add-i-in-loop-sizes c = omega (arith, c.loop-sizes.invariant.0)
@@ -61,4 +61,4 @@ loop-sizes-smaller c = omega (arith, c.loop-sizes.invariant.0, c.if-i-ge-MAX_ROU
 pub loop-sizes-preserved : goal.loop-sizes-preserved
 loop-sizes-preserved c =
     let within = rw c.in-Some.is at (c.take_wide-next.ensures.within c.loop-sizes.invariant.3) in
-    (omega (arith, c.if-i-ge-MAX_ROUNDS.false), (c.take_wide-next.ensures.table_len_unchanged ∙ c.loop-sizes.invariant.1), (c.copy_from_slice.ensures.len ∙ c.loop-sizes.invariant.2), omega (arith, within, c.take_wide-next.ensures.table_len_unchanged), λ g n h good st. let t = c.loop-sizes.invariant.4 g n h good st in turn-next g n _ _ _ t good _ _ (rw c.in-Some.is at (c.take_wide-next.ensures.filled g (round_table g c.loop-sizes.i) n h good (round-ranged g good c.loop-sizes.i).1 (subst (λ (w : List ℕ). Stored n w c.loop-sizes.count (round_table g c.loop-sizes.i)) (sym c.copy_from_slice.ensures.after) t.stored) t.stored (round-past g good n c.loop-sizes.i))) (rw c.in-Some.is at (other-number n _ c.take_wide-next.result (omega (arith, t.stored.counted, t.stored.fits)) (sym c.eq.ensures ∙ c.if-eq.false))) c.if-i-ge-MAX_ROUNDS.false (omega (arith, within, long n _ _ _ t.stored)))
+    (omega (arith, c.if-i-ge-MAX_ROUNDS.false), (c.take_wide-next.auto.table ∙ c.loop-sizes.invariant.1), (c.copy_from_slice.ensures.len ∙ c.loop-sizes.invariant.2), omega (arith, within, c.take_wide-next.auto.table), λ g n h good st. let t = c.loop-sizes.invariant.4 g n h good st in turn-next g n _ _ _ t good _ _ (rw c.in-Some.is at (c.take_wide-next.ensures.filled g (round_table g c.loop-sizes.i) n h good (round-ranged g good c.loop-sizes.i).1 (subst (λ (w : List ℕ). Stored n w c.loop-sizes.count (round_table g c.loop-sizes.i)) (sym c.copy_from_slice.ensures.after) t.stored) t.stored (round-past g good n c.loop-sizes.i))) (rw c.in-Some.is at (other-number n _ c.take_wide-next.result (omega (arith, t.stored.counted, t.stored.fits)) (sym c.eq.ensures ∙ c.if-eq.false))) c.if-i-ge-MAX_ROUNDS.false (omega (arith, within, long n _ _ _ t.stored)))

@@ -19,7 +19,7 @@ pub overflow_mul-heads : goal.overflow_mul-heads
 overflow_mul-heads c = omega (arith, few-heads _ c.args.round.sizes.letters c.args.round.safe.control (omega arith))
 
 pub loop-turn-init : goal.loop-turn-init
-loop-turn-init c = (refl, refl, λ h. h, starts _ _ _ _ _ _ _ _ _ _ _ _ _, λ g es n h marked. listed-none g es _ _ c.requires)
+loop-turn-init c = (λ h. h, starts _ _ _ _ _ _ _ _ _ _ _ _ _, λ g es n h marked. listed-none g es _ _ c.requires)
 
 pub overflow_mul-turn-end : goal.overflow_mul-turn-end
 overflow_mul-turn-end c = omega (arith, few-heads _ c.args.round.sizes.letters c.args.round.safe.control (omega arith))
@@ -40,49 +40,49 @@ pub first_rule-next-requires : goal.first_rule-next-requires
 first_rule-next-requires c = (c.args.round.safe.fit, c.args.round.safe.few)
 
 pub loop-next-init : goal.loop-next-init
-loop-next-init c = let first = c.first_rule-next.ensures.first in (refl, refl, next-some _ _ _ _ _ first.found c.first_rule-next.ensures.within, c.loop-turn.invariant.2, becomes _ _ _ _ _ _ _ _ (starts _ _ _ _ _ _ _ _ _ _ _ _ _) _ (λ g es n h. turn-first g es n _ _ _ _ _ h _ _ _ _ refl refl es c.loop-turn-test.true _ first) _ (λ g es n h e m. subst (λ (l : List Entry). e ∈ l) (sym (turn-first g es n _ _ _ _ _ h _ _ _ _ refl refl (older _ es) c.loop-turn-test.true _ first)) m), c.loop-turn.invariant.4)
+loop-next-init c = let first = c.first_rule-next.ensures.first in (next-some _ _ _ _ _ first.found c.first_rule-next.ensures.within, c.loop-turn.invariant.0, becomes _ _ _ _ _ _ _ _ (starts _ _ _ _ _ _ _ _ _ _ _ _ _) _ (λ g es n h. turn-first g es n _ _ _ _ _ h _ _ _ _ refl refl es c.loop-turn-test.true _ first) _ (λ g es n h e m. subst (λ (l : List Entry). e ∈ l) (sym (turn-first g es n _ _ _ _ _ h _ _ _ _ refl refl (older _ es) c.loop-turn-test.true _ first)) m), c.loop-turn.invariant.2)
 
 pub job_of-requires : goal.job_of-requires
-job_of-requires c = let here = rw c.in-Some.is at c.loop-next.invariant.2 in here.0
+job_of-requires c = let here = rw c.in-Some.is at c.loop-next.invariant.0 in here.0
 
 pub invariant_of-task : goal.invariant_of-task
-invariant_of-task c = let here = rw c.in-Some.is at c.loop-next.invariant.2 in let able = at-able _ _ c.args.round.work.now _ _ _ _ _ _ c.args.round.safe c.args.round.entries here.0 c.job_of.ensures.value in record { able = able.0 }
+invariant_of-task c = let here = rw c.in-Some.is at c.loop-next.invariant.0 in let able = at-able _ _ c.args.round.work.now _ _ _ _ _ _ c.args.round.safe c.args.round.entries here.0 c.job_of.ensures.value in record { able = able.0 }
 
 pub runs_end-end-requires : goal.runs_end-end-requires
-runs_end-end-requires c = let here = rw c.in-Some.is at c.loop-next.invariant.2 in let able = at-able _ _ c.args.round.work.now _ _ _ _ _ _ c.args.round.safe c.args.round.entries here.0 c.job_of.ensures.value in able.1
+runs_end-end-requires c = let here = rw c.in-Some.is at c.loop-next.invariant.0 in let able = at-able _ _ c.args.round.work.now _ _ _ _ _ _ c.args.round.safe c.args.round.entries here.0 c.job_of.ensures.value in able.1
 
 pub runs_start-start-requires : goal.runs_start-start-requires
-runs_start-start-requires c = let here = rw c.in-Some.is at c.loop-next.invariant.2 in let able = at-able _ _ c.args.round.work.now _ _ _ _ _ _ c.args.round.safe c.args.round.entries here.0 c.job_of.ensures.value in able.1
+runs_start-start-requires c = let here = rw c.in-Some.is at c.loop-next.invariant.0 in let able = at-able _ _ c.args.round.work.now _ _ _ _ _ _ c.args.round.safe c.args.round.entries here.0 c.job_of.ensures.value in able.1
 
 pub list_later-requires : goal.list_later-requires
-list_later-requires c = let here = rw c.in-Some.is at c.loop-next.invariant.2 in let able = at-able _ _ c.args.round.work.now _ _ _ _ _ _ c.args.round.safe c.args.round.entries here.0 c.job_of.ensures.value in able.1
+list_later-requires c = let here = rw c.in-Some.is at c.loop-next.invariant.0 in let able = at-able _ _ c.args.round.work.now _ _ _ _ _ _ c.args.round.safe c.args.round.entries here.0 c.job_of.ensures.value in able.1
 
 pub loop-i-init : goal.loop-i-init
-loop-i-init c = let here = rw c.in-Some.is at c.loop-next.invariant.2 in let able = at-able _ _ c.args.round.work.now _ _ _ _ _ _ c.args.round.safe c.args.round.entries here.0 c.job_of.ensures.value in let at = at-rule _ _ _ _ _ (c.loop-turn.turn % (c.args.round.sizes.control * c.args.round.sizes.letters)) c.in-Some.r _ _ c.args.round.lettered (mod-lt c.loop-turn.turn (omega (arith, c.loop-turn-test.true))) here.0 (λ l. here.1) c.job_of.ensures.value c.job_of.ensures.settled_from refl in (refl, refl, c.loop-next.invariant.3, becomes _ _ _ _ _ _ _ _ (starts _ _ _ _ _ _ _ _ _ _ _ _ _) _ (λ g es n h. runs-begin g es n _ _ _ _ _ h _ _ _ _ _ _ _ at _ (rw able.3 at c.runs_start-start.ensures)) _ (λ g es n h e m. m))
+loop-i-init c = let here = rw c.in-Some.is at c.loop-next.invariant.0 in let able = at-able _ _ c.args.round.work.now _ _ _ _ _ _ c.args.round.safe c.args.round.entries here.0 c.job_of.ensures.value in let at = at-rule _ _ _ _ _ (c.loop-turn.turn % (c.args.round.sizes.control * c.args.round.sizes.letters)) c.in-Some.r _ _ c.args.round.lettered (mod-lt c.loop-turn.turn (omega (arith, c.loop-turn-test.true))) here.0 (λ l. here.1) c.job_of.ensures.value c.job_of.ensures.settled_from refl in (c.loop-next.invariant.1, becomes _ _ _ _ _ _ _ _ (starts _ _ _ _ _ _ _ _ _ _ _ _ _) _ (λ g es n h. runs-begin g es n _ _ _ _ _ h _ _ _ _ _ _ _ at _ (rw able.3 at c.runs_start-start.ensures)) _ (λ g es n h e m. m))
 
 pub run_at-requires : goal.run_at-requires
-run_at-requires c = let here = rw c.in-Some.is at c.loop-next.invariant.2 in let able = at-able _ _ c.args.round.work.now _ _ _ _ _ _ c.args.round.safe c.args.round.entries here.0 c.job_of.ensures.value in (able.1, omega (arith, c.loop-i-test.true, runs-within _ _ _ _ _ _ _ (rw able.3 at c.runs_end-end.ensures), ap (runs_of c.args.round.rules.now c.in-Some.r) able.3))
+run_at-requires c = let here = rw c.in-Some.is at c.loop-next.invariant.0 in let able = at-able _ _ c.args.round.work.now _ _ _ _ _ _ c.args.round.safe c.args.round.entries here.0 c.job_of.ensures.value in (able.1, omega (arith, c.loop-i-test.true, runs-within _ _ _ _ _ _ _ (rw able.3 at c.runs_end-end.ensures), ap (runs_of c.args.round.rules.now c.in-Some.r) able.3))
 
 pub loop-i-preserved : goal.loop-i-preserved
-loop-i-preserved c = let here = rw c.in-Some.is at c.loop-next.invariant.2 in let able = at-able _ _ c.args.round.work.now _ _ _ _ _ _ c.args.round.safe c.args.round.entries here.0 c.job_of.ensures.value in let at = at-rule _ _ _ _ _ (c.loop-turn.turn % (c.args.round.sizes.control * c.args.round.sizes.letters)) c.in-Some.r _ _ c.args.round.lettered (mod-lt c.loop-turn.turn (omega (arith, c.loop-turn-test.true))) here.0 (λ l. here.1) c.job_of.ensures.value c.job_of.ensures.settled_from refl in (c.in_ok-count.ensures.table_len_unchanged ∙ c.loop-i.invariant.0, c.in_ok-count.ensures.memo_len_unchanged ∙ c.loop-i.invariant.1, λ h. omega (arith, c.in_ok-count.ensures.table_len_unchanged, c.in_ok-count.ensures.within (c.loop-i.invariant.2 (omega (arith, c.in_ok-count.ensures.table_len_unchanged, h)))), run-turn _ _ _ _ _ _ _ _ c.args.round.born _ _ _ _ _ at _ _ (list-turn _ _ _ _ _ _ _ c.args.round.late c.args.round.born _ _ _ _ _ at c.loop-next.invariant.5 c.list_later.ensures) _ c.loop-i.invariant.3 (omega (arith, c.loop-i-test.true, runs-within _ _ _ _ _ _ _ (rw able.3 at c.runs_end-end.ensures))) c.in_ok-count.ensures.finished)
+loop-i-preserved c = let here = rw c.in-Some.is at c.loop-next.invariant.0 in let able = at-able _ _ c.args.round.work.now _ _ _ _ _ _ c.args.round.safe c.args.round.entries here.0 c.job_of.ensures.value in let at = at-rule _ _ _ _ _ (c.loop-turn.turn % (c.args.round.sizes.control * c.args.round.sizes.letters)) c.in-Some.r _ _ c.args.round.lettered (mod-lt c.loop-turn.turn (omega (arith, c.loop-turn-test.true))) here.0 (λ l. here.1) c.job_of.ensures.value c.job_of.ensures.settled_from refl in (λ h. omega (arith, c.in_ok-count.ensures.within (c.loop-i.invariant.0 (omega (arith, h)))), run-turn _ _ _ _ _ _ _ _ c.args.round.born _ _ _ _ _ at _ _ (list-turn _ _ _ _ _ _ _ c.args.round.late c.args.round.born _ _ _ _ _ at c.loop-next.invariant.3 c.list_later.ensures) _ c.loop-i.invariant.1 (omega (arith, c.loop-i-test.true, runs-within _ _ _ _ _ _ _ (rw able.3 at c.runs_end-end.ensures))) c.in_ok-count.ensures.finished)
 
 pub next_rule-next-requires : goal.next_rule-next-requires
-next_rule-next-requires c = let here = rw c.in-Some.is at c.loop-next.invariant.2 in let able = at-able _ _ c.args.round.work.now _ _ _ _ _ _ c.args.round.safe c.args.round.entries here.0 c.job_of.ensures.value in (c.args.round.safe.fit, able.2, c.args.round.safe.few)
+next_rule-next-requires c = let here = rw c.in-Some.is at c.loop-next.invariant.0 in let able = at-able _ _ c.args.round.work.now _ _ _ _ _ _ c.args.round.safe c.args.round.entries here.0 c.job_of.ensures.value in (c.args.round.safe.fit, able.2, c.args.round.safe.few)
 
 pub loop-next-smaller : goal.loop-next-smaller
-loop-next-smaller c = let here = rw c.in-Some.is at c.loop-next.invariant.2 in let able = at-able _ _ c.args.round.work.now _ _ _ _ _ _ c.args.round.safe c.args.round.entries here.0 c.job_of.ensures.value in rw c.in-Some.is (omega (arith, able.1, c.next_rule-next.ensures.next.after, here.0))
+loop-next-smaller c = let here = rw c.in-Some.is at c.loop-next.invariant.0 in let able = at-able _ _ c.args.round.work.now _ _ _ _ _ _ c.args.round.safe c.args.round.entries here.0 c.job_of.ensures.value in rw c.in-Some.is (omega (arith, able.1, c.next_rule-next.ensures.next.after, here.0))
 
 pub loop-next-preserved : goal.loop-next-preserved
-loop-next-preserved c = let here = rw c.in-Some.is at c.loop-next.invariant.2 in let able = at-able _ _ c.args.round.work.now _ _ _ _ _ _ c.args.round.safe c.args.round.entries here.0 c.job_of.ensures.value in let next = c.next_rule-next.ensures.next in let at = at-rule _ _ _ _ _ (c.loop-turn.turn % (c.args.round.sizes.control * c.args.round.sizes.letters)) c.in-Some.r _ _ c.args.round.lettered (mod-lt c.loop-turn.turn (omega (arith, c.loop-turn-test.true))) here.0 (λ l. here.1) c.job_of.ensures.value c.job_of.ensures.settled_from refl in let added = runs_done _ _ _ _ _ _ _ _ c.args.round.born _ _ _ _ _ at _ c.loop-i.invariant.3 _ (rw able.3 at c.runs_end-end.ensures) c.loop-i-test.false in (c.loop-i.invariant.0 ∙ c.loop-next.invariant.0, c.loop-i.invariant.1 ∙ c.loop-next.invariant.1, next-some _ _ _ _ _ next.found c.next_rule-next.ensures.within, c.loop-i.invariant.2, becomes _ _ _ _ _ _ _ _ (job-turn _ _ _ _ _ _ _ _ c.args.round.born _ _ _ _ _ at (rw c.in-Some.is at c.loop-next.invariant.4) added) _ (λ g es n h. rules-next g es n _ _ _ _ _ h _ es _ _ _ _ next) _ (λ g es n h. past_next g es n _ _ _ _ _ h _ _ _ _ _ next), (list-turn _ _ _ _ _ _ _ c.args.round.late c.args.round.born _ _ _ _ _ at c.loop-next.invariant.5 c.list_later.ensures))
+loop-next-preserved c = let here = rw c.in-Some.is at c.loop-next.invariant.0 in let able = at-able _ _ c.args.round.work.now _ _ _ _ _ _ c.args.round.safe c.args.round.entries here.0 c.job_of.ensures.value in let next = c.next_rule-next.ensures.next in let at = at-rule _ _ _ _ _ (c.loop-turn.turn % (c.args.round.sizes.control * c.args.round.sizes.letters)) c.in-Some.r _ _ c.args.round.lettered (mod-lt c.loop-turn.turn (omega (arith, c.loop-turn-test.true))) here.0 (λ l. here.1) c.job_of.ensures.value c.job_of.ensures.settled_from refl in let added = runs_done _ _ _ _ _ _ _ _ c.args.round.born _ _ _ _ _ at _ c.loop-i.invariant.1 _ (rw able.3 at c.runs_end-end.ensures) c.loop-i-test.false in (next-some _ _ _ _ _ next.found c.next_rule-next.ensures.within, c.loop-i.invariant.0, becomes _ _ _ _ _ _ _ _ (job-turn _ _ _ _ _ _ _ _ c.args.round.born _ _ _ _ _ at (rw c.in-Some.is at c.loop-next.invariant.2) added) _ (λ g es n h. rules-next g es n _ _ _ _ _ h _ es _ _ _ _ next) _ (λ g es n h. past_next g es n _ _ _ _ _ h _ _ _ _ _ next), (list-turn _ _ _ _ _ _ _ c.args.round.late c.args.round.born _ _ _ _ _ at c.loop-next.invariant.3 c.list_later.ensures))
 
 pub loop-turn-preserved : goal.loop-turn-preserved
-loop-turn-preserved c = let added = ends _ _ _ _ _ _ _ _ (rw c.in_default.is at c.loop-next.invariant.4) (λ g es n h. rules-none g es n _ _ _ _ _ h _ es _ _ _ (omega arith)) in (c.loop-next.invariant.0 ∙ c.loop-turn.invariant.0, c.loop-next.invariant.1 ∙ c.loop-turn.invariant.1, c.loop-next.invariant.3, head-turn _ _ _ _ _ _ _ _ _ c.loop-turn.invariant.3 c.loop-turn-test.true added, c.loop-next.invariant.5)
+loop-turn-preserved c = let added = ends _ _ _ _ _ _ _ _ (rw c.in_default.is at c.loop-next.invariant.2) (λ g es n h. rules-none g es n _ _ _ _ _ h _ es _ _ _ (omega arith)) in (c.loop-next.invariant.1, head-turn _ _ _ _ _ _ _ _ _ c.loop-turn.invariant.1 c.loop-turn-test.true added, c.loop-next.invariant.3)
 
 pub returns-clause-filled : goal.returns-clause-filled
 returns-clause-filled c =
-    round_filled _ _ _ _ _ _ _ _ (ends _ _ _ _ _ _ _ _ c.loop-turn.invariant.3 (λ g es n h. turns-none g es n _ _ _ _ _ h _ _ _ _ refl refl c.loop-turn-test.false))
+    round_filled _ _ _ _ _ _ _ _ (ends _ _ _ _ _ _ _ _ c.loop-turn.invariant.1 (λ g es n h. turns-none g es n _ _ _ _ _ h _ _ _ _ refl refl c.loop-turn-test.false))
 
 pub returns-in_err-count-clause-filled : goal.returns-in_err-count-clause-filled
 returns-in_err-count-clause-filled c =
-    let here = rw c.in-Some.is at c.loop-next.invariant.2 in let able = at-able _ _ c.args.round.work.now _ _ _ _ _ _ c.args.round.safe c.args.round.entries here.0 c.job_of.ensures.value in let at = at-rule _ _ _ _ _ (c.loop-turn.turn % (c.args.round.sizes.control * c.args.round.sizes.letters)) c.in-Some.r _ _ c.args.round.lettered (mod-lt c.loop-turn.turn (omega (arith, c.loop-turn-test.true))) here.0 (λ l. here.1) c.job_of.ensures.value c.job_of.ensures.settled_from refl in let run = run-turn _ _ _ _ _ _ _ _ c.args.round.born _ _ _ _ _ at _ _ (list-turn _ _ _ _ _ _ _ c.args.round.late c.args.round.born _ _ _ _ _ at c.loop-next.invariant.5 c.list_later.ensures) _ c.loop-i.invariant.3 (omega (arith, c.loop-i-test.true, runs-within _ _ _ _ _ _ _ (rw able.3 at c.runs_end-end.ensures))) c.in_err-count.ensures.finished in let job = job-turn _ _ _ _ _ _ _ _ c.args.round.born _ _ _ _ _ at (rw c.in-Some.is at c.loop-next.invariant.4) (stops _ _ _ _ _ _ _ _ run refl) in let all = head-turn _ _ _ _ _ _ _ _ _ c.loop-turn.invariant.3 c.loop-turn-test.true (stops _ _ _ _ _ _ _ _ job refl) in
+    let here = rw c.in-Some.is at c.loop-next.invariant.0 in let able = at-able _ _ c.args.round.work.now _ _ _ _ _ _ c.args.round.safe c.args.round.entries here.0 c.job_of.ensures.value in let at = at-rule _ _ _ _ _ (c.loop-turn.turn % (c.args.round.sizes.control * c.args.round.sizes.letters)) c.in-Some.r _ _ c.args.round.lettered (mod-lt c.loop-turn.turn (omega (arith, c.loop-turn-test.true))) here.0 (λ l. here.1) c.job_of.ensures.value c.job_of.ensures.settled_from refl in let run = run-turn _ _ _ _ _ _ _ _ c.args.round.born _ _ _ _ _ at _ _ (list-turn _ _ _ _ _ _ _ c.args.round.late c.args.round.born _ _ _ _ _ at c.loop-next.invariant.3 c.list_later.ensures) _ c.loop-i.invariant.1 (omega (arith, c.loop-i-test.true, runs-within _ _ _ _ _ _ _ (rw able.3 at c.runs_end-end.ensures))) c.in_err-count.ensures.finished in let job = job-turn _ _ _ _ _ _ _ _ c.args.round.born _ _ _ _ _ at (rw c.in-Some.is at c.loop-next.invariant.2) (stops _ _ _ _ _ _ _ _ run refl) in let all = head-turn _ _ _ _ _ _ _ _ _ c.loop-turn.invariant.1 c.loop-turn-test.true (stops _ _ _ _ _ _ _ _ job refl) in
     rw c.from_residual.ensures (round_filled _ _ _ _ _ _ _ _ (stops _ _ _ _ _ _ _ _ all refl))
