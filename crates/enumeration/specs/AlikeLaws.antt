@@ -1,6 +1,6 @@
 -- A full table grows no more, and two lists with the same entries grow a table to the same words, as far as these are promised: the
 -- order in which entries are met is of no matter.
-use Rattle.std.specs.Prelude.{ℕ, ◌+◌, ◌*◌, ◌<◌, ◌≤◌, ◌≡◌, refl, ◌⊎◌, true, false, List, [], ◌∷◌, map, length, leb}
+use Rattle.std.specs.Prelude.{ℕ, ◌+◌, ◌*◌, ◌/◌, ◌<◌, ◌≤◌, ◌≡◌, refl, ◌⊎◌, true, false, List, [], ◌∷◌, map, length, leb}
 use Rattle.std.proofs.Common.{arith, sym, ap, subst, ◌∙◌, inl, inr, ⊎_elim, leb-true, leb-false}
 use mathlib.Core.List.Memᴰ
 use Rattle.game.specs.ListLaws.{◌∈◌, test, clash, map-in, in_map}
@@ -13,12 +13,20 @@ use Rattle.rounds.specs.Growing.{Growing, grow, growing, partly}
 use Rattle.rounds.proofs.Growing.{grown, grow-full, as-full, full-any}
 use Rattle.rounds.specs.GrowingLaws.{HeldBy}
 use Rattle.rounds.specs.Filled.{Filled}
+use Rattle.rounds.proofs.StoredRows.{long_of}
 
 as-part : (s : Growing) → s.full ≡ false → s ≡ partly s.entries
 as-part s t i = record { entries = s.entries; full = t i }
 
 pub full-held : (n : ℕ) (es : List Entry) (s : Growing) → s.full ≡ true → HeldBy n es s
 full-held n es s t e m = ap (λ (x : Growing). grow n x e) (as-full s t) ∙ grow-full n s.entries e ∙ sym (as-full s t)
+
+-- a number of entries beyond the table says that it is full
+pub over-full : (n : ℕ) (words : List ℕ) (count : ℕ) (s : Growing) → Filled n words count s → length words / 3 < count → s.full ≡ true
+over-full n words count s f l =
+    ⊎_elim (λ t. t.0)
+    (λ t. absurd (omega (arith, long_of n words count s f, t.1.counted, t.1.fits)))
+    f
 
 -- the same entries, in both of equal keys the lower rule field first, and of each key and rule field one
 pub record Alike (es fs : List Entry) : Type 0 where

@@ -1,10 +1,11 @@
--- Laws of lists as the code keeps them: which sets the list of a rule has.
-use Rattle.std.specs.Prelude.{ℕ, zero, suc, ◌+◌, ◌-◌, ◌<◌, ◌≤◌, ◌≡◌, refl, List, [], ◌∷◌, length, get_or, take, drop}
-use Rattle.std.proofs.Common.{arith}
+-- Laws of lists as the code keeps them: which sets the list of a rule has, and words that were all zeroed.
+use Rattle.std.specs.Prelude.{ℕ, zero, suc, ◌+◌, ◌-◌, ◌<◌, ◌≤◌, ◌≡◌, refl, true, false, List, [], ◌∷◌, length, get_or, take, drop, ltb}
+use Rattle.std.proofs.Common.{arith, ⊎_elim, ltb-true, ltb-false}
 use mathlib.Core.List.Memᴰ
-use Rattle.game.specs.ListLaws.{◌∈◌}
+use Rattle.std.proofs.Math.ListN.{get_or-eq_default}
+use Rattle.game.specs.ListLaws.{◌∈◌, test}
 use Rattle.enumeration.specs.PastLaws.{part_in}
-use Rattle.enumeration.specs.Lists.{start_of, stop_of, list_of}
+use Rattle.enumeration.specs.Lists.{start_of, stop_of, list_of, Zero, Cleared}
 
 -- what stands within a part of a list is in it
 in-part : {A : Type 0} (d : A) (m n : ℕ) (xs : List A) (k : ℕ) → n ≤ k → k < n + m → k < length xs → get_or xs k d ∈ take m (drop n xs)
@@ -26,3 +27,11 @@ module _ (lists spans : List ℕ) (r : ℕ) where
   pub in_list : (i : ℕ) → start_of spans r ≤ i → i < stop_of spans r (length lists) → get_or lists i 0 ∈ list_of lists spans r
   in_list i l h =
       in-part 0 (stop_of spans r (length lists) - start_of spans r) (start_of spans r) lists i l (omega arith) (omega arith)
+
+-- where all words are zeroed, those beyond the end count as 0 too
+pub all-cleared : (words : List ℕ) (i : ℕ) (after : List ℕ) → Cleared words i after → length words ≤ i → Zero after
+all-cleared words i after d h k =
+    ⊎_elim
+    (λ (t : ltb k i ≡ true). d.zeros k (ltb-true k i t))
+    (λ (t : ltb k i ≡ false). get_or-eq_default after 0 (omega (arith, d.long, ltb-false k i t)))
+    (test (ltb k i))

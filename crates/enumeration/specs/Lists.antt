@@ -29,6 +29,12 @@ pub record Listed (g : PushdownGame) (old : List Entry) (lists spans : List ℕ)
   pub all : (r z : ℕ) → r < length g.rules → start_of spans r < stop_of spans r (length lists)
       → z ∈ rule_ends g old (get_or g.rules r no_rule) → z ∈ list_of lists spans r
 
+-- words after the first n of them were set to 0
+pub record Cleared (words : List ℕ) (n : ℕ) (after : List ℕ) : Type 0 where
+  pub long : length after ≡ length words
+  pub zeros : (k : ℕ) → k < n → get_or after k 0 ≡ 0
+  pub others : (k : ℕ) → n ≤ k → get_or after k 0 ≡ get_or words k 0
+
 -- an area after the sets of so many entries were put into it from a place on
 pub record Copied (lists sets : List ℕ) (count room : ℕ) (after : List ℕ) : Type 0 where
   pub long : length after ≡ length lists
