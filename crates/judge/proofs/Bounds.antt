@@ -4,6 +4,7 @@ use mathlib.Core.Path.{◌≡◌, sym, ap, subst, ◌∙◌}
 use mathlib.Core.Bool.{Bool, true, false, ◌&&◌}
 use mathlib.Core.List.{List, ◌∷◌}
 use mathlib.Core.Option.{Option, none, some}
+use Rattle.std.specs.Prelude.{Option as Optional}
 use native.Mathlib.Omega.{arith}
 use lib.ListN.{length, get_or, drop, take, length-drop}
 use borrow.Author.Tests.{eq-eqb, ne_eqb}
@@ -20,7 +21,7 @@ use Rattle.judge.specs.Worth.{Automaton, no_worth, coded, step, step_worth, wort
 use Rattle.judge.specs.Tabulate.{tabulate-at}
 use Rattle.judge.proofs.Range.{length-worths}
 use Rattle.judge.specs.Verdict.{lost, target, eloise, abelard, or_zero, to_move, lost_field, verdict_of, verdict_over, verdict}
-use Rattle.judge.specs.Machine.{machine, automaton_of, Tame, Low, Lows, Numbers, Asked, least_number, head_number, rule_number}
+use Rattle.judge.specs.Machine.{numbers as codes, AllOwn, Tamed, machine, automaton_of, Low, Lows, Numbers, Asked, least_number, head_number, rule_number}
 use Rattle.judge.specs.Judged.{Fielded}
 use Rattle.judge.proofs.CodedLaws.{Held, coded-up-to, coded_none, coded-some}
 use Rattle.judge.proofs.MachineLaws.{low_held, step-coded, rules-coded}
@@ -40,8 +41,8 @@ pub record Found (sizes : Sizes) (es : List Entry) (p : ℕ) (w : List ℕ) (num
   pub low : Low (bound_of sizes es p w)
 
 -- what the code has for what lies below the top
-module _ {sizes : Sizes} {rules words : List ℕ} {p : ℕ} {w : List ℕ} (asked : Asked sizes rules words p w) {below : List ℕ}
-    (b : below ≡ machine (worths (automaton_of sizes (entries_of words)) (take (length w - 1) (drop 1 w)))) where
+module _ {sizes : Sizes} {rules words : List ℕ} {p : ℕ} {w : List ℕ} (asked : Asked sizes rules words p w) (below : List (Optional ℕ))
+    (b : codes below ≡ machine (worths (automaton_of sizes (entries_of words)) (take (length w - 1) (drop 1 w)))) where
   abbrev A : Automaton
   A = automaton_of sizes (entries_of words)
 
@@ -51,17 +52,17 @@ module _ {sizes : Sizes} {rules words : List ℕ} {p : ℕ} {w : List ℕ} (aske
   short-rest : length (drop 1 w) ≤ max_stack
   short-rest = rw length-drop (omega (arith, asked.short))
 
-  pub stands : below ≡ machine (worths A (drop 1 w))
+  pub stands : codes below ≡ machine (worths A (drop 1 w))
   stands = b ∙ ap (λ (x : List ℕ). machine (worths A x)) (below_top w)
 
   pub low-rest : Lows (worths A (drop 1 w))
   low-rest = lows sizes small words asked.lent.young (drop 1 w) short-rest
 
-  abbrev pub numbers : Numbers sizes.states below
-  numbers = record { worths = worths A (drop 1 w); is = stands; long = length-worths A (drop 1 w); low = low-rest }
+  abbrev pub numbers : AllOwn below → Numbers sizes.states below
+  numbers own = record { worths = worths A (drop 1 w); is = stands; own = own; long = length-worths A (drop 1 w); low = low-rest }
 
-  pub tamed : Tame below
-  tamed = rw stands (tame-worths sizes small words asked.lent.young (drop 1 w) short-rest)
+  pub tamed : AllOwn below → Tamed below
+  tamed own = tame-worths sizes small words asked.lent.young (drop 1 w) short-rest below own stands
 
   bound-low : Low (bound_of sizes (entries_of words) p w)
   unfolding worths step
@@ -72,7 +73,7 @@ module _ {sizes : Sizes} {rules words : List ℕ} {p : ℕ} {w : List ℕ} (aske
       subst Low (tabulate-at f sizes.states p none asked.there) l
 
   -- what the code finds for the head is the code of the bound
-  pub found : {number : ℕ} → number ≡ least_number (head_number p (get_or w 0 0) sizes.states below) (entries_of words)
+  pub found : {number : ℕ} → number ≡ least_number (head_number p (get_or w 0 0) sizes.states (codes below)) (entries_of words)
       → Found sizes (entries_of words) p w number
   found f =
       record {
@@ -87,7 +88,7 @@ module _ {sizes : Sizes} {rules words : List ℕ} {p : ℕ} {w : List ℕ} (aske
 
   -- and what it finds for the least rule field is the code of the least one
   pub rule-least : ((k : ℕ) → get_or words k 0 < 2 ^ 32) → {number : ℕ} → number < no_worth → {field : ℕ}
-      → field ≡ least_number (rule_number p (get_or w 0 0) sizes.states below number) (entries_of words)
+      → field ≡ least_number (rule_number p (get_or w 0 0) sizes.states (codes below) number) (entries_of words)
       → field ≡ coded (least_over (head_rule A (worths A (drop 1 w)) p (get_or w 0 0) number) (entries_of words))
   rule-least fields {number} l f =
       f

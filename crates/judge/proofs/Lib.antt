@@ -8,6 +8,7 @@ pub mod Most
 pub mod LostLaws
 pub mod LostField
 pub mod CodedLaws
+pub mod Codes
 pub mod MachineLaws
 pub mod Bounds
 pub mod Filling

@@ -2,10 +2,11 @@
 use Prim.Native.Nat.{ℕ, zero, suc, ◌+◌, ◌*◌, ◌^◌, ◌<◌, ◌≤◌}
 use mathlib.Core.Path.{◌≡◌, refl, sym, ap, ap₂, subst, ◌∙◌}
 use mathlib.Core.Logic.{⊎_elim}
-use mathlib.Core.Bool.{Bool, true, false, cond, ◌&&◌}
+use mathlib.Core.Bool.{Bool, true, false, cond, not, ◌&&◌}
 use mathlib.Core.List.Memᴰ
 use mathlib.Core.List.{List, [], ◌∷◌}
 use mathlib.Core.Option.{Option}
+use Rattle.std.specs.Prelude.{Option as Optional, None, Some, is_none as is_nothing}
 use native.Mathlib.Omega.{arith}
 use lib.ListN.{length, get_or, drop}
 use lib.Seq.{drop-cons, drop-length}
@@ -25,9 +26,10 @@ use Rattle.game.specs.declared.game.Sizes.{Sizes}
 use Rattle.table.specs.Table.{entries_of}
 use Rattle.judge.specs.Worth.{Automaton, no_worth, coded, is_none, worth_in, step}
 use Rattle.judge.specs.Verdict.{successor_worth, losing_field, lost_field}
-use Rattle.judge.specs.Machine.{automaton_of, Numbers, LostStates, head_lost}
+use Rattle.judge.specs.Machine.{number_of, Own, automaton_of, Numbers, LostStates, head_lost}
 use Rattle.judge.proofs.CodedLaws.{Held, held_none, held-some}
-use Rattle.judge.proofs.MachineLaws.{low_held, machine-at}
+use Rattle.judge.proofs.MachineLaws.{low_held, machine-at, length-machine}
+use Rattle.judge.proofs.Codes.{number-at, length-numbers}
 use Rattle.judge.proofs.LostLaws.{writes-none, writes_one, writes-two}
 use Rattle.judge.proofs.LostField.{field-eloise}
 use Rattle.judge.specs.LostStateLaws.{head-lost, step-lost}
@@ -88,8 +90,18 @@ unfolding coded is_none
 none-coded held_none = refl
 none-coded (held-some {n} l) = ne_eqb n no_worth (λ e. omega arith)
 
+-- what a test for nothing says
+pub denied : (b r : Bool) → b ≡ not r → r ≡ not b
+denied b true p = sym (ap not p)
+denied b false p = sym (ap not p)
+
+-- and the code's
+nothing : (x : Optional ℕ) → Own x → is_nothing x ≡ eqb (number_of x) no_worth
+nothing None o = refl
+nothing (Some n) o = let l = o n refl in sym (ne_eqb n no_worth (λ e. omega (arith, l, e)))
+
 -- all states of a rest are asked
-pub none-marked : {states q set : ℕ} {below : List ℕ} → states ≤ max_states → Marked (λ k. eqb (get_or below k 0) no_worth) states q set → states ≤ q
+pub none-marked : {states q set : ℕ} {below : List (Optional ℕ)} → states ≤ max_states → Marked (λ k. is_nothing (get_or below k None)) states q set → states ≤ q
     → (n : Numbers states below) → LostStates states set n.worths
 none-marked {states} {q} {set} {below} few m h n =
     let ws = n.worths in
@@ -98,6 +110,9 @@ none-marked {states} {q} {set} {below} few m h n =
       inside =
           λ k i.
           m.told k (omega (arith, m.within))
+          ∙ nothing (get_or below k None) (n.own k)
+          ∙ ap (λ (x : ℕ). eqb x no_worth)
+          (sym (number-at below k (omega (arith, n.long, sym (length-numbers below) ∙ ap length n.is ∙ length-machine ws (omega (arith, n.long))))))
           ∙ ap (λ (xs : List ℕ). eqb (get_or xs k 0) no_worth) n.is
           ∙ ap (λ (x : ℕ). eqb x no_worth) (machine-at ws k (omega (arith, n.long)) (omega arith))
           ∙ none-coded (low_held (worth_in ws k) (n.low k));

@@ -5,6 +5,7 @@ use mathlib.Core.Logic.{⊎_elim}
 use mathlib.Core.Bool.{true, false}
 use mathlib.Core.List.{List, [], ◌∷◌}
 use mathlib.Core.Option.{Option, none, some}
+use Rattle.std.specs.Prelude.{Option as Optional}
 use native.Mathlib.Omega.{arith}
 use native.Mathlib.Nat.{mul-le-mul_right}
 use lib.ListN.{length, get_or, take, drop, length-drop}
@@ -17,8 +18,9 @@ use Rattle.game.specs.declared.game.Sizes.{Sizes}
 use Rattle.table.specs.Table.{entries_of}
 use Rattle.judge.specs.Worth.{Automaton, base_weight, worth_in, step, worths}
 use Rattle.judge.proofs.Range.{WeightsUpTo, worth-range, base_weight-mono, length-worths}
-use Rattle.judge.specs.Machine.{machine, automaton_of, most_below, Tame, Young, Low, Lows}
-use Rattle.judge.proofs.MachineLaws.{past, tame}
+use Rattle.judge.specs.Machine.{numbers, AllOwn, Tamed, machine, automaton_of, most_below, Young, Low, Lows}
+use Rattle.judge.proofs.MachineLaws.{past}
+use Rattle.judge.proofs.Codes.{tamed-by}
 
 -- the part of a stack after its top letter
 pub below_top : (w : List ℕ) → take (length w - 1) (drop 1 w) ≡ drop 1 w
@@ -61,17 +63,17 @@ module _ (sizes : Sizes) (small : sizes.states ≤ max_states) (words : List ℕ
       bounded (some m) e l =
           omega (arith, worth-range A (base_weight max_rounds) up_to w q m l e, mul-le-mul_right (base_weight max_rounds) h, largest-sum)
 
-  pub tame-worths : (w : List ℕ) → length w ≤ max_stack → Tame (machine (worths A w))
-  tame-worths w h = tame (worths A w) (omega (arith, length-worths A w)) (lows w h)
+  pub tame-worths : (w : List ℕ) → length w ≤ max_stack → (below : List (Optional ℕ)) → AllOwn below → numbers below ≡ machine (worths A w) → Tamed below
+  tame-worths w h below own is = tamed-by below (worths A w) own is (omega (arith, length-worths A w)) (lows w h)
 
   -- the top letter's step over the worths of the rest below it
-  pub stepped : (w : List ℕ) → length w ≤ max_stack → (length w ≡ 0 → ⊥) → (below : List ℕ)
-      → below ≡ machine (worths A (take (length w - 1) (drop 1 w))) → (r : List ℕ)
-      → ((rest : List (Option ℕ)) → below ≡ machine rest → length rest ≡ sizes.states → Lows rest → r ≡ machine (step A (get_or w 0 0) rest))
-      → r ≡ machine (worths A w)
+  pub stepped : (w : List ℕ) → length w ≤ max_stack → (length w ≡ 0 → ⊥) → (below : List (Optional ℕ))
+      → numbers below ≡ machine (worths A (take (length w - 1) (drop 1 w))) → (r : List (Optional ℕ))
+      → ((rest : List (Option ℕ)) → numbers below ≡ machine rest → length rest ≡ sizes.states → Lows rest → numbers r ≡ machine (step A (get_or w 0 0) rest))
+      → numbers r ≡ machine (worths A w)
   unfolding worths
   stepped w h n below b r s =
       let v = drop 1 w in
-      let e : below ≡ machine (worths A v) = b ∙ ap (λ (x : List ℕ). machine (worths A x)) (below_top w) in
+      let e : numbers below ≡ machine (worths A v) = b ∙ ap (λ (x : List ℕ). machine (worths A x)) (below_top w) in
       s (worths A v) e (length-worths A v) (lows v (rw length-drop (omega arith)))
       ∙ ap (λ (x : List ℕ). machine (worths A x)) (sym (top-letter w n))

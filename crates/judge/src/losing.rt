@@ -15,7 +15,7 @@ ghost use Rattle.judge.specs.Judged.{field_of};
 ghost use Rattle.judge.specs.Verdict.{successor_worth, losing_field, lost_field};
 ghost use Rattle.judge.specs.Machine.{automaton_of, Numbers, LostStates, head_lost};
 
-use crate::worth::{NONE, is_of_head};
+use crate::worth::is_of_head;
 use game::{Game, Sizes, has_state, is_rule_of};
 use table::{EntryWords, start_of};
 
@@ -26,7 +26,7 @@ pub fn lost_rule(
     table: &[u32],
     p: u8,
     a: u8,
-    below: &[u64; Game::MAX_STATES as usize],
+    below: &[Option<u64>; Game::MAX_STATES as usize],
 ) -> Option<u32>
     requires { Safe sizes rules.now × Sorted table.now }
     ensures { (g : PushdownGame) → Held g sizes rules.now → (n : Numbers sizes.states below.now)
@@ -39,14 +39,14 @@ pub fn lost_rule(
 }
 
 // The states without a worth.
-fn lost_states(states: u8, below: &[u64; Game::MAX_STATES as usize]) -> u32
+fn lost_states(states: u8, below: &[Option<u64>; Game::MAX_STATES as usize]) -> u32
     requires { states ≤ max_states }
     ensures { (n : Numbers states below.now) → LostStates states result n.worths }
 {
     let mut set = 0;
     for q in 0..states {
         let at = q as usize;
-        set = marked(set, q, below[at] == NONE);
+        set = marked(set, q, below[at].is_none());
     }
     set
 }

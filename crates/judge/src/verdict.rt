@@ -6,10 +6,12 @@ ghost use Rattle.game.specs.Game.{PushdownGame};
 ghost use Rattle.game.specs.Held.{Held};
 ghost use Rattle.table.specs.Table.{entry_of, entries_of};
 ghost use Rattle.table.specs.Rows.{Sorted};
-ghost use Rattle.judge.specs.Worth.{coded, field_number};
+ghost use Rattle.judge.specs.Worth.{no_worth, coded, field_number};
 ghost use Rattle.judge.specs.Verdict.{verdict as verdict_is, or_zero};
 ghost use Rattle.judge.specs.Machine.{
-  Tame,
+  Tamed,
+  number_of,
+  numbers,
   Young,
   Asked,
   least_number,
@@ -19,7 +21,7 @@ ghost use Rattle.judge.specs.Machine.{
 ghost use Rattle.judge.specs.Judged.{verdict_as, Fielded};
 
 use crate::losing::lost_rule;
-use crate::worth::{NONE, entry_worth, head_worth, is_of_head, worths};
+use crate::worth::{entry_worth, head_worth, is_of_head, worths};
 use game::{Game, Sizes, has_state};
 use table::{EntryWords, start_of};
 
@@ -42,12 +44,12 @@ pub fn verdict_on(sizes: Sizes, rules: &[u8], table: &[u32], state: u8, stack: &
 {
     let top = stack[0];
     let below = worths(sizes, table, &stack[1..]);
-    let bound = head_worth(table, state, top, sizes.states, &below);
-    if bound == NONE {
+    let found = head_worth(table, state, top, sizes.states, &below);
+    let Some(bound) = found else {
         return Verdict::Lost {
             rule: lost_rule(sizes, rules, table, state, top, &below),
         };
-    }
+    };
     if bound == 0 {
         return Verdict::Target;
     }
@@ -68,14 +70,14 @@ fn least_rule(
     p: u8,
     a: u8,
     states: u8,
-    below: &[u64; Game::MAX_STATES as usize],
+    below: &[Option<u64>; Game::MAX_STATES as usize],
     bound: u64,
-) -> u64
-    requires { (states ≤ max_states) × Young table.now × Sorted table.now × Tame below.now }
-    ensures { result ≡ least_number (rule_number p a states below.now bound) (entries_of table.now) }
+) -> Option<u32>
+    requires { (states ≤ max_states) × Young table.now × Sorted table.now × Tamed below.now × (bound < no_worth) }
+    ensures { number_of result ≡ least_number (rule_number p a states (numbers below.now) bound) (entries_of table.now) }
 {
     let count = table.len() / EntryWords::STRIDE;
-    let mut least = NONE;
+    let mut least = None;
     for i in start_of(table, count, p, a)..count {
         let entry = EntryWords::at(table, i);
         if !is_of_head(entry, p, a) {
@@ -88,40 +90,45 @@ fn least_rule(
 
 // The lesser of a rule field and a transition's, if it is of worth `bound`.
 fn lesser_rule(
-    least: u64,
+    least: Option<u32>,
     entry: EntryWords,
     states: u8,
-    below: &[u64; Game::MAX_STATES as usize],
+    below: &[Option<u64>; Game::MAX_STATES as usize],
     bound: u64,
-) -> u64
-    requires { (states ≤ max_states) × Tame below.now × ((entry_of entry.first entry.set entry.rule).birthdate ≤ max_rounds) }
-    ensures { result ≡ lesser_rule least states below.now bound (entry_of entry.first entry.set entry.rule) }
+) -> Option<u32>
+    requires { (states ≤ max_states) × Tamed below.now × ((entry_of entry.first entry.set entry.rule).birthdate ≤ max_rounds) × (bound < no_worth) }
+    ensures { number_of result ≡ lesser_rule (number_of least) states (numbers below.now) bound (entry_of entry.first entry.set entry.rule) }
 {
-    if entry_worth(entry, states, below) != bound {
+    let Some(worth) = entry_worth(entry, states, below) else {
+        return least;
+    };
+    if worth != bound {
         return least;
     }
     lesser(least, entry.rule)
 }
 
-fn lesser(least: u64, field: u32) -> u64
-    ensures { result ≡ min least field }
+fn lesser(least: Option<u32>, field: u32) -> Option<u32>
+    ensures { number_of result ≡ min (number_of least) field }
 {
-    let wide = field as u64;
-    if wide < least {
-        return wide;
+    let Some(old) = least else {
+        return Some(field);
+    };
+    if field < old {
+        return Some(field);
     }
     least
 }
 
 // The rule number that a rule field stands for; 0 where there is none.
-fn rule_number(field: u64) -> u32
-    ensures { (x : Option ℕ) → field ≡ coded x → Fielded x → result ≡ or_zero (field_number x) }
+fn rule_number(field: Option<u32>) -> u32
+    ensures { (x : Option ℕ) → number_of field ≡ coded x → Fielded x → result ≡ or_zero (field_number x) }
 {
-    if field == 0 {
+    let Some(one_more) = field else {
+        return 0;
+    };
+    if one_more == 0 {
         return 0;
     }
-    if field == NONE {
-        return 0;
-    }
-    ((field - 1) % 4294967296) as u32
+    one_more - 1
 }

@@ -1,4 +1,3 @@
-use native.Mathlib.Omega.{arith}
 use Rattle.judge.proofs.LostRules.{marked_start, marked_next, step-marked}
 use Rattle.judge.proofs.losing.lost_above.Goals as goal
 

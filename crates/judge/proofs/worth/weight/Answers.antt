@@ -1,5 +1,5 @@
 use Rattle.judge.specs.Worth.{base_weight}
-use Rattle.judge.proofs.Tests.{shifted, no_less}
+use Rattle.judge.proofs.Tests.{shifted}
 use Rattle.judge.proofs.worth.weight.Goals as goal
 
 pub returns : goal.returns
