@@ -1,27 +1,19 @@
 -- The entries of the last round are noted one after another, and rules that can have none of them are looked for from the last one
 -- on.
-use Prim.Native.Nat.{ℕ, zero, suc, ◌+◌, ◌*◌, ◌-◌, ◌/◌, ◌%◌, ◌<◌, ◌≤◌}
+use Prim.Native.Nat.{ℕ, ◌+◌, ◌*◌, ◌/◌, ◌%◌, ◌<◌}
 use native.Mathlib.Omega.{arith}
-use mathlib.Core.Path.{◌≡◌, refl, ap, ◌∙◌}
+use mathlib.Core.Path.{◌≡◌, ap, ◌∙◌}
 use mathlib.Core.Logic.{◌⊎◌, inl, inr, ⊎_elim}
 use mathlib.Core.Bool.{true, false}
-use mathlib.Core.List.{List, [], ◌∷◌}
+use mathlib.Core.List.{List}
 use lib.ListN.{length, get_or, set}
 use lib.Seq.{get_or-set_same, get_or-set_other}
 use lib.Dec.{eqb, ltb}
 use borrow.Author.Tests.{eqb-true, eqb-false, ltb-true, ltb-false}
 use Rattle.game.specs.Sets.{has, single, union}
 use Rattle.game.specs.SetLaws.{left-union, right-union, single-has}
-use Rattle.game.specs.Game.{of_head}
-use Rattle.game.specs.Stored.{rule_at}
 use Rattle.game.specs.ListLaws.{test}
-use Rattle.enumeration.specs.Past.{Marked, Settled, SettledFrom}
-
--- beyond a list
-pub beyond : (xs : List ℕ) (k : ℕ) → length xs ≤ k → 0 ≡ get_or xs k 0
-beyond [] k l = refl
-beyond (x ∷ xs) zero l = absurd (omega arith)
-beyond (x ∷ xs) (suc k) l = beyond xs k (omega arith)
+use Rattle.enumeration.specs.Past.{Marked}
 
 module _ (work fresh : List ℕ) (late i : ℕ) (m : Marked work fresh late i) (first : ℕ) (e : first ≡ get_or work (i * 3) 0) where
   -- one entry more, by what is known of it
@@ -38,12 +30,6 @@ module _ (work fresh : List ℕ) (late i : ℕ) (m : Marked work fresh late i) (
       let is : first ≡ get_or work (k * 3) 0 = e ∙ ap (λ (j : ℕ). get_or work (j * 3) 0) same in
       rw is at here small)
       (test (ltb k i))
-
-  pub mark-older : first < late → Marked work fresh late (i + 1)
-  mark-older l = one_more fresh (λ k h. h) (λ small. inl l)
-
-  pub mark-none : 32 ≤ first % 256 → Marked work fresh late (i + 1)
-  mark-none l = one_more fresh (λ k h. h) (λ small. absurd (omega arith))
 
   module _ (at word : ℕ) (a : at ≡ first / 256 % 256) (inside : at < length fresh) (w : word ≡ union (get_or fresh at 0) (single (first % 256))) where
     here-is : get_or (set fresh at word) at 0 ≡ word
@@ -64,15 +50,3 @@ module _ (work fresh : List ℕ) (late i : ℕ) (m : Marked work fresh late i) (
         (λ small.
         inr
         (rw (← a, here-is, w) (right-union (get_or fresh at 0) (single (first % 256)) (first % 256) (single-has (first % 256)))))
-
--- one rule more that is settled
-pub settled-one : (rules fresh : List ℕ) (end p a k : ℕ) → SettledFrom rules fresh end p a k → 0 < k
-    → (of_head p a (rule_at rules ((k - 1) * 6) 0) ≡ true → Settled fresh (rule_at rules ((k - 1) * 6) 0))
-    → SettledFrom rules fresh end p a (k - 1)
-settled-one rules fresh end p a k s some one j l m h =
-    ⊎_elim
-    (λ (t : ltb j k ≡ true).
-    let same : k - 1 ≡ j = omega (arith, ltb-true j k t) in
-    rw same at one h)
-    (λ (t : ltb j k ≡ false). s j (ltb-false j k t) m h)
-    (test (ltb j k))

@@ -1,15 +1,10 @@
 -- Lines of the memo after one was written.
 use Prim.Native.Nat.{ℕ, ◌+◌, ◌*◌, ◌≤◌}
 use mathlib.Core.Path.{◌≡◌, ◌∙◌}
-use mathlib.Core.Logic.{◌⊎◌, inl, inr, ⊎_elim}
-use mathlib.Core.Bool.{true, false}
 use mathlib.Core.List.{List}
 use native.Mathlib.Omega.{arith}
 use lib.ListN.{length, get_or, set, length-set}
 use lib.Seq.{get_or-set_same, get_or-set_other}
-use lib.Dec.{eqb}
-use borrow.Author.Tests.{eqb-true, eqb-false}
-use Rattle.game.specs.ListLaws.{test}
 use Rattle.enumeration.specs.Memo.{line_at}
 
 pub line-is : (memo : List ℕ) (k tag left union : ℕ) → get_or memo (k * 3) 0 ≡ tag → get_or memo (k * 3 + 1) 0 ≡ left → get_or memo (k * 3 + 2) 0 ≡ union → line_at memo k ≡ record { tag = tag; left = left; union = union }
@@ -40,15 +35,3 @@ module _ (memo : List ℕ) (line tag left union : ℕ) (h : line * 3 + 3 ≤ len
       get_or-set_other two (line * 3 + 2) j union 0 c
       ∙ get_or-set_other one (line * 3 + 1) j left 0 b
       ∙ get_or-set_other memo (line * 3) j tag 0 a
-
-  pub lines_after : (k : ℕ) → (line_at after k ≡ record { tag = tag; left = left; union = union }) ⊎ (line_at after k ≡ line_at memo k)
-  lines_after k =
-      ⊎_elim
-      (λ (e : eqb k line ≡ true). let s = eqb-true k line e in inl (rw s written))
-      (λ (e : eqb k line ≡ false).
-      let n = eqb-false k line e in
-      inr
-      (line-is after k _ _ _ (untouched (k * 3) (λ z. omega arith) (λ z. omega arith) (λ z. omega arith))
-      (untouched (k * 3 + 1) (λ z. omega arith) (λ z. omega arith) (λ z. omega arith))
-      (untouched (k * 3 + 2) (λ z. omega arith) (λ z. omega arith) (λ z. omega arith))))
-      (test (eqb k line))

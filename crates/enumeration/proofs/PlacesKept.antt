@@ -1,5 +1,5 @@
 -- The places of heads after those of one more were written.
-use Prim.Native.Nat.{ℕ, ◌+◌, ◌*◌, ◌<◌, ◌≤◌, min}
+use Prim.Native.Nat.{ℕ, ◌+◌, ◌*◌, ◌<◌, ◌≤◌}
 use native.Mathlib.Omega.{arith}
 use mathlib.Core.Path.{◌≡◌, ◌∙◌}
 use mathlib.Core.Logic.{⊎_elim}
@@ -13,12 +13,6 @@ use Rattle.game.specs.ListLaws.{test}
 use Rattle.table.specs.Table.{key}
 use Rattle.table.specs.Rows.{Placed}
 use Rattle.enumeration.specs.Places.{place_at, PlacedHead, PlacedTo}
-
--- a place is within the entries, so the lesser of both is the place
-pub lesser-placed : (work : List ℕ) (count k place : ℕ) → Placed work count k place → Placed work count k (min place count)
-lesser-placed work count k place p =
-    let same : min place count ≡ place = omega (arith, p.within) in
-    rw same p
 
 module _ (work : List ℕ) (count : ℕ) (places : List ℕ) (letters q a start end : ℕ) (long : length places ≡ 4096) (low : q < 32) (high : a < 64) where
   abbrev one : List ℕ

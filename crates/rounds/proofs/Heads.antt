@@ -37,15 +37,6 @@ skips rules end from p a r s h n =
 pub finds : (rules : List ℕ) (end from p a r : ℕ) → Skipping rules end from p a r → r < end → of_head p a (rule_at rules (r * 6) 0) ≡ true → NextRule rules end from p a r
 finds rules end from p a r s h y = record { after = s.after; within = s.within; skipped = s.skipped; found = λ l. y }
 
-pub misses : (rules : List ℕ) (end from p a r : ℕ) → Skipping rules end from p a r → end ≤ r → NextRule rules end from p a end
-misses rules end from p a r s h =
-    record {
-      after = omega (arith, s.after, s.within);
-      within = omega arith;
-      skipped = λ k l m. s.skipped k l (omega arith);
-      found = λ l. absurd (omega arith);
-    }
-
 -- a number between a power of two and the next one has that digit
 digit : (set j : ℕ) → 2 ^ j ≤ set → set < 2 ^ suc j → set / 2 ^ j % 2 ≡ 1
 digit set j low high =
@@ -67,9 +58,6 @@ highest-of set small some =
       member = λ p. eq-eqb (set / 2 ^ j % 2) 1 (digit set j t.2 t.3);
       above = λ k l m. has_above (suc j) set k t.3 (omega arith);
     })
-
-pub zeros-few : (set : ℕ) → set < 2 ^ 32 → 0 < set → count_leading_zeros 32 set ≤ 31
-zeros-few set small some = omega (arith, (leading_top 32 set some small).1)
 
 pub highest-none : Highest 0 0
 highest-none = record { small = omega arith; member = λ p. absurd (omega arith); above = λ k l m. none_has k }

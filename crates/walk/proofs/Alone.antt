@@ -30,7 +30,7 @@ use Rattle.rounds.specs.Filled.{Stored, Filled}
 use Rattle.rounds.specs.Scans.{rules_between}
 use Rattle.rounds.specs.ScanLaws.{rule-at, next-is, none-next}
 use Rattle.enumeration.specs.AlikeLaws.{one_each, low_of}
-use Rattle.enumeration.specs.Jobs.{Able, Stands, Whole, Entered, end_of, field_of}
+use Rattle.enumeration.specs.Jobs.{Stands, Whole, Entered, end_of, field_of}
 use Rattle.enumeration.specs.Lists.{Zero}
 use Rattle.enumeration.specs.Past.{Aging}
 use Rattle.enumeration.specs.Places.{Placing}
@@ -114,11 +114,6 @@ hers-ranged g h =
 module _ (job job' : Job) (r : ℕ) (e : job' ≡ alone job r) where
   pub its-end : r < job'.end
   its-end = subst (λ (j : Job). r < j.end) (sym e) (omega arith)
-
-  pub its-able : (rules work : ℕ) → r < job.end → Able job rules work → Able job' rules work
-  its-able rules work l h =
-      subst (λ (j : Job). Able j rules work) (sym e)
-      (record { ends = omega (arith, h.ends); few = omega (arith, h.few); entries = h.entries })
 
 module _ (g : PushdownGame) (old : List Entry) (birthdate : ℕ) (job : Job) (rules work : List ℕ) (h : Stands g old birthdate job rules work) (r : ℕ) (l : r < job.end) (hit : of_head job.state job.letter (rule_at rules (r * 6) 0) ≡ true) where
   abbrev rule : Rule

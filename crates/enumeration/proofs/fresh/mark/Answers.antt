@@ -5,14 +5,8 @@ use mathlib.Core.Path.{ap, ◌∙◌}
 use lib.ListN.{get_or}
 use Rattle.game.specs.Sets.{single, union}
 use Rattle.table.specs.declared.entry.EntryWords.{EntryWords}
-use Rattle.enumeration.proofs.Freshness.{mark-older, mark-none, mark_set}
+use Rattle.enumeration.proofs.Freshness.{mark_set}
 use Rattle.enumeration.proofs.fresh.mark.Goals as goal
-
-pub returns-then-entry-late : goal.returns-then-entry-late
-returns-then-entry-late c = λ m. mark-older c.args.work.now c.args.fresh.now _ c.args.i m c.at-entry.result.first (ap (λ (x : EntryWords). x.first) c.at-entry.ensures) c.if-entry-late.true
-
-pub returns-then-state-ge-MAX_STATES : goal.returns-then-state-ge-MAX_STATES
-returns-then-state-ge-MAX_STATES c = λ m. mark-none c.args.work.now c.args.fresh.now _ c.args.i m c.at-entry.result.first (ap (λ (x : EntryWords). x.first) c.at-entry.ensures) (omega (arith, c.if-state-ge-MAX_STATES.true, c.state-state.ensures))
 
 pub returns : goal.returns
 returns c = λ m. mark_set c.args.work.now c.args.fresh.now _ c.args.i m c.at-entry.result.first (ap (λ (x : EntryWords). x.first) c.at-entry.ensures) c.letter-at.result c.joined.result c.letter-at.ensures (omega (arith, c.letter-at.ensures)) (c.joined.ensures (omega (arith, c.if-state-ge-MAX_STATES.false)) ∙ ap (λ (q : ℕ). union (get_or c.args.fresh.now c.letter-at.result 0) (single q)) c.state-state.ensures)

@@ -1,9 +1,6 @@
 use native.Mathlib.Omega.{arith}
 use Rattle.enumeration.proofs.places.set_letters.Goals as goal
 
-pub loop-a-init : goal.loop-a-init
-loop-a-init c = (omega arith, λ low few to p b lb l. to p b lb (omega arith))
-
 pub loop-a-preserved : goal.loop-a-preserved
 loop-a-preserved c = (omega arith, λ low few to p b lb l. c.set_head.ensures _ low (omega arith) few (c.loop-a.invariant.1 low few to) p b lb (omega arith))
 

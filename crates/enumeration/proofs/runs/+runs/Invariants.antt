@@ -8,7 +8,6 @@
 -- those give from here on is held (`Past`); that is handed on with each older entry that is taken. Assumes what the contracts
 -- require.
 use Prim.Native.Nat.{◌+◌, ◌*◌, ◌-◌, ◌^◌, ◌≤◌}
-use mathlib.Core.Path.{◌≡◌}
 use mathlib.Core.List.{List, map}
 use lib.ListN.{length}
 use Rattle.game.specs.Game.{PushdownGame}

@@ -15,9 +15,6 @@ use Rattle.walk.proofs.ends.find_ends.Goals as goal
 pub loop-i-init : goal.loop-i-init
 loop-i-init c = let l = its-end c.args.task.now.job _ c.args.r c.alone_of.ensures in (omega arith, λ g old b n s h pl ag whole. scan-from g old b n _ _ _ _ _ _ (begins-nothing g old _ _ _ _ 0 _ _ (to_is g old b n _ _ _ _ _ _ s h _ l) (above-is g old b n _ _ _ _ _ _ s h _ l)) _ _ _ s h _ (c.start_at-i.ensures.by_index _ (above-placed g old b n _ _ _ _ _ _ s h _ l _ pl)))
 
-pub runs_with-requires : goal.runs_with-requires
-runs_with-requires c = (its-end c.args.task.now.job _ c.args.r c.alone_of.ensures, omega (arith, c.loop-i-test.true, c.end_at-end.ensures.upper_bound))
-
 pub returns-in_err-count-clause-filled : goal.returns-in_err-count-clause-filled
 returns-in_err-count-clause-filled c =
     rw c.from_residual.ensures

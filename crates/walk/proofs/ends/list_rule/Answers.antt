@@ -9,25 +9,6 @@ use Rattle.walk.proofs.Alone.{zero-stored, found}
 use Rattle.walk.proofs.Listing.{listed_more, bounded-more, zeroed}
 use Rattle.walk.proofs.ends.list_rule.Goals as goal
 
-pub returns-then-task-r-ne2 : goal.returns-then-task-r-ne2
-returns-then-task-r-ne2 c =
-    record {
-      listed = λ g old b stands pl ag hit zs zm bd li. li;
-      upper_bound = (c.requires.1, λ bd. bd, λ z. z, λ z. z);
-    }
-
-pub returns-in_default : goal.returns-in_default
-returns-in_default c =
-    record {
-      listed = λ g old b stands pl ag hit zs zm bd li. li;
-      upper_bound = (c.requires.1, λ bd. bd, λ z. zeroed _ _ (c.fill-in_default.ensures.after (λ y e. e)), λ z. zeroed _ _ (c.fill.ensures.after (λ y e. e)));
-    }
-
-pub keep_list-after-requires : goal.keep_list-after-requires
-keep_list-after-requires c =
-    let long : length c.find_ends-found.new.sets ≡ 3072 = search rules in
-    (omega (arith, c.in-Some.ensures.within), omega (arith, c.args.task.now.able.few, c.requires.0), c.requires.1)
-
 pub returns : goal.returns
 returns c =
     let sets : length c.args.sets.now ≡ 3072 = search rules in

@@ -1,6 +1,6 @@
 use Prim.Native.Nat.{◌*◌, ◌%◌}
 use native.Mathlib.Nat.{mod-lt}
-use mathlib.Core.Path.{refl, sym, ap, subst, ◌∙◌}
+use mathlib.Core.Path.{refl, sym, ap, subst}
 use mathlib.Core.List.{List}
 use native.Mathlib.Omega.{arith}
 use Rattle.walk.specs.RoundJobs.{runs_of}
@@ -8,54 +8,17 @@ use Rattle.game.specs.ListLaws.{◌∈◌}
 use Rattle.table.specs.Table.{Entry}
 use Rattle.enumeration.specs.Past.{older}
 use Rattle.walk.proofs.Rounding.{starts, becomes, ends, stops}
-use Rattle.rounds.specs.ScanLaws.{few-heads, head_at}
 use Rattle.walk.proofs.FirstRuns.{runs-within}
 use Rattle.walk.proofs.RoundTurns.{at-rule, at-able, runs-begin, rules-next, past_next, rules-none, turn-first, turns-none}
 use Rattle.walk.proofs.Listing.{listed-none, next-some}
 use Rattle.walk.proofs.Nest.{list-turn, run-turn, runs_done, job-turn, head-turn, round_filled}
 use Rattle.walk.proofs.round.add_runs.Goals as goal
 
-pub overflow_mul-heads : goal.overflow_mul-heads
-overflow_mul-heads c = omega (arith, few-heads _ c.args.round.sizes.letters c.args.round.safe.control (omega arith))
-
 pub loop-turn-init : goal.loop-turn-init
 loop-turn-init c = (λ h. h, starts _ _ _ _ _ _ _ _ _ _ _ _ _, λ g es n h marked. listed-none g es _ _ c.requires)
 
-pub overflow_mul-turn-end : goal.overflow_mul-turn-end
-overflow_mul-turn-end c = omega (arith, few-heads _ c.args.round.sizes.letters c.args.round.safe.control (omega arith))
-
-pub nonzero_div-p : goal.nonzero_div-p
-nonzero_div-p c = c.args.round.lettered
-
-pub overflow_cast-p : goal.overflow_cast-p
-overflow_cast-p c = omega (arith, c.args.round.safe.control, (head_at c.args.round.sizes.control c.args.round.sizes.letters (c.loop-turn.turn % (c.args.round.sizes.control * c.args.round.sizes.letters)) c.args.round.lettered (mod-lt c.loop-turn.turn (omega (arith, c.loop-turn-test.true)))).0)
-
-pub nonzero_rem-a : goal.nonzero_rem-a
-nonzero_rem-a c = c.args.round.lettered
-
-pub overflow_cast-a : goal.overflow_cast-a
-overflow_cast-a c = omega (arith, (head_at c.args.round.sizes.control c.args.round.sizes.letters (c.loop-turn.turn % (c.args.round.sizes.control * c.args.round.sizes.letters)) c.args.round.lettered (mod-lt c.loop-turn.turn (omega (arith, c.loop-turn-test.true)))).1)
-
-pub first_rule-next-requires : goal.first_rule-next-requires
-first_rule-next-requires c = (c.args.round.safe.fit, c.args.round.safe.few)
-
 pub loop-next-init : goal.loop-next-init
 loop-next-init c = let first = c.first_rule-next.ensures.first in (next-some _ _ _ _ _ first.found c.first_rule-next.ensures.within, c.loop-turn.invariant.0, becomes _ _ _ _ _ _ _ _ (starts _ _ _ _ _ _ _ _ _ _ _ _ _) _ (λ g es n h. turn-first g es n _ _ _ _ _ h _ _ _ _ refl refl es c.loop-turn-test.true _ first) _ (λ g es n h e m. subst (λ (l : List Entry). e ∈ l) (sym (turn-first g es n _ _ _ _ _ h _ _ _ _ refl refl (older _ es) c.loop-turn-test.true _ first)) m), c.loop-turn.invariant.2)
-
-pub job_of-requires : goal.job_of-requires
-job_of-requires c = let here = rw c.in-Some.is at c.loop-next.invariant.0 in here.0
-
-pub invariant_of-task : goal.invariant_of-task
-invariant_of-task c = let here = rw c.in-Some.is at c.loop-next.invariant.0 in let able = at-able _ _ c.args.round.work.now _ _ _ _ _ _ c.args.round.safe c.args.round.entries here.0 c.job_of.ensures.value in record { able = able.0 }
-
-pub runs_end-end-requires : goal.runs_end-end-requires
-runs_end-end-requires c = let here = rw c.in-Some.is at c.loop-next.invariant.0 in let able = at-able _ _ c.args.round.work.now _ _ _ _ _ _ c.args.round.safe c.args.round.entries here.0 c.job_of.ensures.value in able.1
-
-pub runs_start-start-requires : goal.runs_start-start-requires
-runs_start-start-requires c = let here = rw c.in-Some.is at c.loop-next.invariant.0 in let able = at-able _ _ c.args.round.work.now _ _ _ _ _ _ c.args.round.safe c.args.round.entries here.0 c.job_of.ensures.value in able.1
-
-pub list_later-requires : goal.list_later-requires
-list_later-requires c = let here = rw c.in-Some.is at c.loop-next.invariant.0 in let able = at-able _ _ c.args.round.work.now _ _ _ _ _ _ c.args.round.safe c.args.round.entries here.0 c.job_of.ensures.value in able.1
 
 pub loop-i-init : goal.loop-i-init
 loop-i-init c = let here = rw c.in-Some.is at c.loop-next.invariant.0 in let able = at-able _ _ c.args.round.work.now _ _ _ _ _ _ c.args.round.safe c.args.round.entries here.0 c.job_of.ensures.value in let at = at-rule _ _ _ _ _ (c.loop-turn.turn % (c.args.round.sizes.control * c.args.round.sizes.letters)) c.in-Some.r _ _ c.args.round.lettered (mod-lt c.loop-turn.turn (omega (arith, c.loop-turn-test.true))) here.0 (λ l. here.1) c.job_of.ensures.value c.job_of.ensures.settled_from refl in (c.loop-next.invariant.1, becomes _ _ _ _ _ _ _ _ (starts _ _ _ _ _ _ _ _ _ _ _ _ _) _ (λ g es n h. runs-begin g es n _ _ _ _ _ h _ _ _ _ _ _ _ at _ (rw able.3 at c.runs_start-start.ensures)) _ (λ g es n h e m. m))
@@ -65,12 +28,6 @@ run_at-requires c = let here = rw c.in-Some.is at c.loop-next.invariant.0 in let
 
 pub loop-i-preserved : goal.loop-i-preserved
 loop-i-preserved c = let here = rw c.in-Some.is at c.loop-next.invariant.0 in let able = at-able _ _ c.args.round.work.now _ _ _ _ _ _ c.args.round.safe c.args.round.entries here.0 c.job_of.ensures.value in let at = at-rule _ _ _ _ _ (c.loop-turn.turn % (c.args.round.sizes.control * c.args.round.sizes.letters)) c.in-Some.r _ _ c.args.round.lettered (mod-lt c.loop-turn.turn (omega (arith, c.loop-turn-test.true))) here.0 (λ l. here.1) c.job_of.ensures.value c.job_of.ensures.settled_from refl in (λ h. omega (arith, c.in_ok-count.ensures.within (c.loop-i.invariant.0 (omega (arith, h)))), run-turn _ _ _ _ _ _ _ _ c.args.round.born _ _ _ _ _ at _ _ (list-turn _ _ _ _ _ _ _ c.args.round.late c.args.round.born _ _ _ _ _ at c.loop-next.invariant.3 c.list_later.ensures) _ c.loop-i.invariant.1 (omega (arith, c.loop-i-test.true, runs-within _ _ _ _ _ _ _ (rw able.3 at c.runs_end-end.ensures))) c.in_ok-count.ensures.finished)
-
-pub next_rule-next-requires : goal.next_rule-next-requires
-next_rule-next-requires c = let here = rw c.in-Some.is at c.loop-next.invariant.0 in let able = at-able _ _ c.args.round.work.now _ _ _ _ _ _ c.args.round.safe c.args.round.entries here.0 c.job_of.ensures.value in (c.args.round.safe.fit, able.2, c.args.round.safe.few)
-
-pub loop-next-smaller : goal.loop-next-smaller
-loop-next-smaller c = let here = rw c.in-Some.is at c.loop-next.invariant.0 in let able = at-able _ _ c.args.round.work.now _ _ _ _ _ _ c.args.round.safe c.args.round.entries here.0 c.job_of.ensures.value in rw c.in-Some.is (omega (arith, able.1, c.next_rule-next.ensures.next.after, here.0))
 
 pub loop-next-preserved : goal.loop-next-preserved
 loop-next-preserved c = let here = rw c.in-Some.is at c.loop-next.invariant.0 in let able = at-able _ _ c.args.round.work.now _ _ _ _ _ _ c.args.round.safe c.args.round.entries here.0 c.job_of.ensures.value in let next = c.next_rule-next.ensures.next in let at = at-rule _ _ _ _ _ (c.loop-turn.turn % (c.args.round.sizes.control * c.args.round.sizes.letters)) c.in-Some.r _ _ c.args.round.lettered (mod-lt c.loop-turn.turn (omega (arith, c.loop-turn-test.true))) here.0 (λ l. here.1) c.job_of.ensures.value c.job_of.ensures.settled_from refl in let added = runs_done _ _ _ _ _ _ _ _ c.args.round.born _ _ _ _ _ at _ c.loop-i.invariant.1 _ (rw able.3 at c.runs_end-end.ensures) c.loop-i-test.false in (next-some _ _ _ _ _ next.found c.next_rule-next.ensures.within, c.loop-i.invariant.0, becomes _ _ _ _ _ _ _ _ (job-turn _ _ _ _ _ _ _ _ c.args.round.born _ _ _ _ _ at (rw c.in-Some.is at c.loop-next.invariant.2) added) _ (λ g es n h. rules-next g es n _ _ _ _ _ h _ es _ _ _ _ next) _ (λ g es n h. past_next g es n _ _ _ _ _ h _ _ _ _ _ next), (list-turn _ _ _ _ _ _ _ c.args.round.late c.args.round.born _ _ _ _ _ at c.loop-next.invariant.3 c.list_later.ensures))
