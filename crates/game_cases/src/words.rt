@@ -31,7 +31,7 @@ use crate::accepted::{accepted, game_of, has_rules, has_targets};
 use crate::command::{kind, operand};
 use crate::refused::{cuts, every_byte, refused};
 use crate::told::Told;
-use game::{has_state, position_form};
+use game::{Game, has_state, position_form};
 use script::{Cases, File, Script, byte_of, word_of};
 
 // The bytes of the buffer.
@@ -59,21 +59,24 @@ fn one_word(t: &mut Cases, word: u8, script: &mut Script<'_>, file: &mut File<RO
         }
         b'm' => file.list(script),
         b'p' => file.patch(script),
-        b's' => {
-            let rules = game_of(file.as_slice()).rules;
-            listed(
-                t,
-                script,
-                16,
-                |i| rules.get(i).copied().map_or(0, usize::from),
-            );
-        }
-        b'w' => {
-            let targets = game_of(file.as_slice()).targets;
-            listed(t, script, 10, |i| targets.get(i).map_or(0, |x| *x as usize));
-        }
+        b's' => stored_rules(t, script, game_of(file.as_slice())),
+        b'w' => stored_targets(t, script, game_of(file.as_slice())),
         _ => with_numbers(t, word, script.numbers(), file),
     }
+}
+
+// Bytes with which the rules begin.
+fn stored_rules(t: &mut Cases, script: &mut Script<'_>, game: Game) {
+    let rules = game.rules;
+    listed(t, script, 16, |i| {
+        rules.get(i).copied().map_or(0, usize::from)
+    });
+}
+
+// Words with which the target transitions begin.
+fn stored_targets(t: &mut Cases, script: &mut Script<'_>, game: Game) {
+    let targets = game.targets;
+    listed(t, script, 10, |i| targets.get(i).map_or(0, |x| *x as usize));
 }
 
 // A case for each value of a list: what is stored begins with these.
