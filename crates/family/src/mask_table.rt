@@ -1,5 +1,5 @@
 // The 512 numbers of the table of masks, eight for each set below 64 (`raising`).
-pub const TABLE: [u64; 512] = [
+pub static TABLE: [u64; 512] = [
     // set 0
     0,
     0,

@@ -11,11 +11,11 @@ use crate::mask_table::TABLE;
 // How many words the table has.
 pub const RAISING: usize = 512;
 
-// The table as a value.
-pub fn raising_table() -> [u64; RAISING]
-    ensures { Raising result }
+// The table.
+pub fn raising_table() -> &'static [u64; RAISING]
+    ensures { Raising result.now }
 {
-    TABLE
+    &TABLE
 }
 
 // Word j of the family of all subsets of a set below 1,024.

@@ -6,6 +6,7 @@ ghost use Rattle.family.specs.Masks.{Raising};
 
 // The unions of a set of the family at a place of `a` with a set of the family at a place of `b`, put into the family at the front of
 // `out`: word by word of the second family.
+#[inline(always)]
 pub fn unite_into(
     out: &mut [u64],
     a: &[u64],

@@ -18,6 +18,7 @@ use family::{clear_at, copy_at, join_at};
 use unions::lowest_set;
 
 // The families of a state's heads emptied, of those whose letters are in a set; the first head has number `base`.
+#[inline(always)]
 fn clear_row(base: usize, letters: usize, bits: u64, n: usize, new: &mut [u64])
     requires { (base + letters ≤ 2048) × (n ≤ 16) × ((base + letters) * n ≤ length new.old) }
     ensures { Thinned base letters bits n new.old new.new }
@@ -69,6 +70,7 @@ fn close_row(
 
 // The heads of the control states: those that were given something are closed, and of those that had news before and got nothing the
 // news are emptied.
+#[inline(always)]
 fn close_rows(
     control: usize,
     letters: usize,
@@ -102,6 +104,7 @@ fn close_rows(
 }
 
 // The heads of further states, which get nothing in a round: the news of round 0 are emptied.
+#[inline(always)]
 fn clear_rows(
     control: usize,
     states: usize,
@@ -121,6 +124,7 @@ fn clear_rows(
 
 // Every head, and for each letter the elements that were given something, and those with any transition, of which those before are noted
 // in `alive`. The heads that were given something, by their bits in `gains`, are those with news afterwards.
+#[inline(always)]
 pub fn close_heads(
     control: usize,
     states: usize,

@@ -8,9 +8,9 @@ ghost use Rattle.unions.specs.Finding.{Fresh};
 ghost use Rattle.noting.specs.Marks.{Marked, Dead};
 
 use family::is_empty_at;
-use unions::number_of;
 
 // For each letter the elements whose head has a set in `new`, and those whose head has one in `all`.
+#[inline(always)]
 pub fn set_masks(
     count: usize,
     states: &[u8],
@@ -55,7 +55,7 @@ fn mark(
 {
     let mut set = 0usize;
     for k in 0..count {
-        let head = number_of(states[k]) * letters + c;
+        let head = usize::from(states[k]) * letters + c;
         if !is_empty_at(words, head * n, n) {
             set = set | (1usize << k);
         }

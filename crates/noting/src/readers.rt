@@ -5,7 +5,7 @@ ghost use Rattle.noting.specs.Reading.{Readable, Marked, Met, Summed, Started, F
 
 use family::{join_at, put_at};
 use game::Game;
-use unions::{lowest_set, number_of};
+use unions::lowest_set;
 
 // Each rule put into the sets of those that read what it reads.
 pub fn mark_rules(rules: &[u8], count: usize, readers: &mut [u64])
@@ -31,17 +31,18 @@ fn mark_rule(rules: &[u8], r: usize, readers: &mut [u64])
         put_at(readers, 640, r);
         return;
     }
-    put_at(readers, number_of(rules[at + 2]) * 4, r);
-    put_at(readers, 128 + number_of(rules[at + 4]) * 4, r);
+    put_at(readers, usize::from(rules[at + 2]) * 4, r);
+    put_at(readers, 128 + usize::from(rules[at + 4]) * 4, r);
     if written == 1 {
         return;
     }
-    put_at(readers, 384 + number_of(rules[at + 5]) * 4, r);
+    put_at(readers, 384 + usize::from(rules[at + 5]) * 4, r);
 }
 
 // The rules that a round looks at: those whose first head has a new transition, those whose first head has any and whose second letter
 // an element has a new one on, and in the first round those that write no letters. Those whose first head has a transition are put into
 // `held`.
+#[inline(always)]
 pub fn find_active(
     states: usize,
     letters: usize,

@@ -1,5 +1,5 @@
 -- What a round is taken from, what its areas must have room for, and what holds once some of the rules are taken.
-use Rattle.std.specs.Prelude.{Option, None, Some, ℕ, ◌+◌, ◌*◌, ◌<◌, ◌≤◌, ◌≡◌, ◌⊎◌, true, List, ◌++◌, length, get_or}
+use Rattle.std.specs.Prelude.{ℕ, ◌+◌, ◌*◌, ◌<◌, ◌≤◌, ◌≡◌, ◌⊎◌, true, List, ◌++◌, length, get_or}
 use Rattle.game.specs.Game.{Rule, PushdownGame}
 use Rattle.game.specs.GoodGame.{Good}
 use Rattle.game.specs.Stored.{rule_bytes}
@@ -11,7 +11,6 @@ use Rattle.family.specs.Masks.{Raising}
 use Rattle.rounds.specs.Rounds.{next_round}
 use Rattle.unions.specs.Pool.{Is, Pool, Fits, Kept}
 use Rattle.unions.specs.Ending.{Growth, Listed, Masked, RuleEnds, RuleBefore, RuleFits}
-use Rattle.saturation.specs.declared.rules.Counts.{Counts}
 use Rattle.saturation.specs.Steps.{Ripe, Calm, Stepped, EloisesTo}
 
 -- what the code holds of a game in a round: Abelard's states, how many letters and rules there are, and the rules' bytes
@@ -57,15 +56,6 @@ pub record RulesTo (el : List ℕ) (g : PushdownGame) (n heads : ℕ) (states : 
   pub calm : (r : Rule) → r ∈ g.rules → r.number < k → Calm g old es i stirred r
   pub left : (r : Rule) → r ∈ g.rules → is_abelard g r.from ≡ true → k ≤ r.number → Is el n ends (r.number * n) (RuleBefore g old i r)
   pub stepped : Stepped el g n es b now (EloisesTo g es k) gains log added count
-
--- entries and lines as numbers: one entry more than there may be, where they do not fit
-abbrev pub entries_of : ℕ → Option Counts → ℕ
-entries_of size None = size + 1
-entries_of size (Some counts) = counts.entries
-
-abbrev pub lines_of : Option Counts → ℕ
-lines_of None = 0
-lines_of (Some counts) = counts.lines
 
 -- or the round does not fit so many entries
 abbrev pub RulesTaken : List ℕ → PushdownGame → ℕ → ℕ → List ℕ → List Entry → List Entry → ℕ → ℕ → ℕ → List Entry → ℕ → List ℕ → List ℕ → List ℕ → List ℕ → List ℕ → List ℕ → List ℕ → List ℕ → ℕ → ℕ → Type 0

@@ -4,6 +4,9 @@
 // which give what is new, and of the heads, which take it by `noting`; rules and heads are passed over by marks of what has something new. It
 // leaves out the unions, the ends of runs and the table written at last, which are those of `unions`, round 0 and the marks, which are those
 // of `noting`, and the order of rounds and their end, which are the solver's.
+//
+// A round is compiled once for each size of arrays. What such a round calls is marked to be inlined, here and below, since a function with
+// three callers is not inlined by itself.
 #![tactic(auto)]
 
 mod heads;
@@ -15,4 +18,3 @@ mod rules;
 pub use kept::{Kept, Rules};
 pub use linking::link;
 pub use round::take_round;
-pub use rules::Counts;

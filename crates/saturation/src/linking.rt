@@ -1,10 +1,9 @@
 // The rules of each head one after another: the first rule of each head, by the head's number, and for each rule the next of its head.
-ghost use Rattle.std.specs.Prelude.{◌≡◌, ℕ, ◌+◌, ◌*◌, ◌<◌, ◌≤◌, length, get_or};
+ghost use Rattle.std.specs.Prelude.{◌≡◌, ℕ, ◌+◌, ◌*◌, ◌<◌, ◌≤◌, length};
 ghost use Rattle.saturation.specs.RuleLinks.{Linked, LinkedFrom, Climbs};
 
 use game::Game;
 use rounds::next_rule;
-use unions::number_of;
 
 // One number for each head of a control state, and one for each rule; `count` where there is no rule more.
 pub fn link(
@@ -46,8 +45,8 @@ fn link_rule(
 {
     let p = rules[r * Game::RULE_STRIDE];
     let a = rules[r * Game::RULE_STRIDE + 1];
-    let state = number_of(p);
-    let letter = number_of(a);
+    let state = usize::from(p);
+    let letter = usize::from(a);
     if control <= state {
         nexts[r] = next_rule(rules, count, r + 1, p, a).unwrap_or(count);
         return;

@@ -10,7 +10,7 @@ ghost use Rattle.saturation.specs.Kept.{Room, Rested, Taken, NotedIn};
 
 use crate::heads::take_heads;
 use crate::kept::{Kept, Rules};
-use crate::rules::{Counts, take_rules};
+use crate::rules::take_rules;
 use family::clear_at;
 use noting::{Marks, close_heads, find_active};
 use unions::renew_lines;
@@ -24,8 +24,7 @@ pub fn take_round<
     const ENDS: usize,
 >(
     rules: &Rules<'_>,
-    new: &mut [u64; WORDS],
-    marks: &mut Marks,
+    marks: &mut Marks<WORDS>,
     kept: &mut Kept<WORDS, LINES, HINTS, GIVEN, ENDS>,
     log: &mut [u32],
     size: usize,
@@ -37,12 +36,12 @@ pub fn take_round<
     ensures by_index { (el : List ℕ) (g : PushdownGame) (old es : List Entry) (i : ℕ) → rules.now.sizes.control ≡ g.control → rules.now.sizes.states ≡ g.states → birthdate ≡ suc i
         → Reads rules.now.bytes.now rules.now.sizes.rulecount rules.now.readers.now
         → Linked rules.now.bytes.now rules.now.sizes.rulecount rules.now.frame.letters rules.now.sizes.control rules.now.firsts.now rules.now.nexts.now
-        → Rested el g old es i rules.now new.old marks.old kept.old log.old kept.old.families.count before
-        → Taken el g es i birthdate size rules.now new.new marks.new kept.new log.new kept.new.families.count (counted size result) }
+        → Rested el g old es i rules.now marks.old kept.old log.old kept.old.families.count before
+        → Taken el g es i birthdate size rules.now marks.new kept.new log.new kept.new.families.count (counted size result) }
     ensures upper_bound { IfSome result (λ k. k ≤ size) }
     ensures log_len_unchanged { length log.new ≡ length log.old }
 {
-    let entries = note_round(rules, new, marks, kept, log, size, birthdate, before)?;
+    let entries = note_round(rules, marks, kept, log, size, birthdate, before)?;
     close_heads(
         rules.sizes.control as usize,
         rules.sizes.states as usize,
@@ -51,7 +50,7 @@ pub fn take_round<
         rules.frame.heads,
         rules.frame.n,
         &mut kept.families.all,
-        new,
+        &mut marks.more,
         &mut kept.added,
         &mut marks.fresh,
         &mut marks.alive,
@@ -70,8 +69,7 @@ fn note_round<
     const ENDS: usize,
 >(
     rules: &Rules<'_>,
-    new: &mut [u64; WORDS],
-    marks: &mut Marks,
+    marks: &mut Marks<WORDS>,
     kept: &mut Kept<WORDS, LINES, HINTS, GIVEN, ENDS>,
     log: &mut [u32],
     size: usize,
@@ -83,25 +81,21 @@ fn note_round<
     ensures by_index { (el : List ℕ) (g : PushdownGame) (old es : List Entry) (i : ℕ) → rules.now.sizes.control ≡ g.control → rules.now.sizes.states ≡ g.states → birthdate ≡ suc i
         → Reads rules.now.bytes.now rules.now.sizes.rulecount rules.now.readers.now
         → Linked rules.now.bytes.now rules.now.sizes.rulecount rules.now.frame.letters rules.now.sizes.control rules.now.firsts.now rules.now.nexts.now
-        → Rested el g old es i rules.now new.old marks.old kept.old log.old kept.old.families.count before
-        → NotedIn el g old es i birthdate size rules.now new.new marks.new kept.new log.new kept.new.families.count (counted size result) }
+        → Rested el g old es i rules.now marks.old kept.old log.old kept.old.families.count before
+        → NotedIn el g old es i birthdate size rules.now marks.new kept.new log.new kept.new.families.count (counted size result) }
     ensures upper_bound { IfSome result (λ k. k ≤ size) }
     ensures unchanged { (marks.new.fresh ≡ marks.old.fresh) × (marks.new.alive ≡ marks.old.alive) × (marks.new.news ≡ marks.old.news) }
     ensures log_len_unchanged { length log.new ≡ length log.old }
 {
     clear_at(&mut kept.stirred, 0, 32);
     renew_lines(
-        &rules.frame.states,
-        rules.frame.letters,
-        rules.frame.heads,
-        rules.frame.n,
+        &rules.frame,
         &mut kept.families.all,
-        new,
+        &mut marks.more,
         kept.families.count,
         &kept.families.keys,
         &kept.families.rests,
         &marks.fresh,
-        &rules.frame.raising,
     );
     let mut active = [0u64; 4];
     find_active(
@@ -114,50 +108,16 @@ fn note_round<
         &mut marks.held,
         &mut active,
     );
-    let offered = take_rules(
-        &active,
-        rules.sizes.abelard,
-        rules.bytes,
-        rules.sizes.rulecount,
-        &rules.frame.states,
-        &rules.frame.numbers,
-        rules.frame.letters,
-        rules.frame.heads,
-        rules.frame.n,
-        &mut kept.families.all,
-        new,
-        &mut kept.families.keys,
-        &mut kept.families.rests,
-        &mut kept.families.hints,
-        &marks.fresh,
-        &marks.alive,
-        &mut kept.ends,
-        &mut kept.stirred,
-        &mut kept.gains,
-        &rules.frame.raising,
-        &mut kept.added,
-        log,
-        size,
-        birthdate,
-        Counts { entries: before, lines: kept.families.count },
-    )?;
-    kept.families.count = offered.lines;
+    let offered = take_rules(&active, rules, marks, kept, log, size, birthdate, before)?;
     take_heads(
-        rules.sizes.abelard,
-        rules.sizes.control as usize,
-        rules.frame.letters,
-        rules.sizes.rulecount,
-        rules.frame.n,
+        rules,
         &kept.ends,
         &kept.stirred,
-        rules.firsts,
-        rules.nexts,
-        &rules.frame.raising,
         &kept.families.all,
         &mut kept.added,
         &mut kept.gains,
         log,
-        offered.entries,
+        offered,
         size,
         birthdate,
     )

@@ -6,7 +6,7 @@ use mathlib.Core.Path.{◌≡◌, refl, sym, ap, subst, ◌∙◌}
 use mathlib.Core.Logic.{◌⊎◌, ⊎_elim}
 use mathlib.Core.Bool.{true, false}
 use mathlib.Core.List.{List, []}
-use lib.ListN.{length, get_or, replicate, length-replicate}
+use lib.ListN.{length, replicate, length-replicate}
 use Rattle.game.specs.Limits.{max_rounds}
 use Rattle.game.specs.Game.{PushdownGame}
 use Rattle.game.specs.GoodGame.{Good}
@@ -166,8 +166,8 @@ module _ {el : List ℕ} {g : PushdownGame} {m n heads abelard letters rulecount
         turn)
 
 -- The loop's turns: the table is as it was, the log has its length, and what is kept rests at round i.
-pub record Turning {W L H G E : ℕ} (rules : Rules) (first : ℕ) (table₀ log₀ new₀ : List ℕ) (marks₀ : Marks) (kept₀ : Kept W L H G E)
-    (table log new : List ℕ) (marks : Marks) (kept : Kept W L H G E) (size entries i : ℕ) : Type 0 where
+pub record Turning {W L H G E : ℕ} (rules : Rules) (first : ℕ) (table₀ log₀ : List ℕ) (marks₀ : Marks W) (kept₀ : Kept W L H G E)
+    (table log : List ℕ) (marks : Marks W) (kept : Kept W L H G E) (size entries i : ℕ) : Type 0 where
   pub most : i ≤ max_rounds
   pub sized : size ≡ length table₀ / 3
   pub tabled : table ≡ table₀
@@ -175,15 +175,15 @@ pub record Turning {W L H G E : ℕ} (rules : Rules) (first : ℕ) (table₀ log
   pub logs : length log ≡ length log₀
   pub gone : (el : List ℕ) (g : PushdownGame) (m : ℕ) → rules.sizes.control ≡ g.control → rules.sizes.states ≡ g.states → Reads rules.bytes.now rules.sizes.rulecount rules.readers.now
       → Linked rules.bytes.now rules.sizes.rulecount rules.frame.letters rules.sizes.control rules.firsts.now rules.nexts.now → table₀ ≡ replicate (m * 3) 0
-      → Rested el g [] (round_zero g) 0 rules new₀ marks₀ kept₀ log₀ kept₀.families.count first
+      → Rested el g [] (round_zero g) 0 rules marks₀ kept₀ log₀ kept₀.families.count first
       → Rests el g m rules.frame.n rules.frame.heads rules.sizes.abelard rules.frame.letters rules.sizes.rulecount rules.bytes.now rules.frame.states rules.frame.numbers
-      rules.frame.raising kept.families.all new kept.families.keys kept.families.rests marks.fresh marks.alive kept.ends kept.added log marks.news marks.held kept.families.count entries i
+      rules.frame.raising.now kept.families.all marks.more kept.families.keys kept.families.rests marks.fresh marks.alive kept.ends kept.added log marks.news marks.held kept.families.count entries i
 
 -- what writing the table needs
-pub sized-at : {W L H G E : ℕ} (rules : Rules) (kept : Kept W L H G E) → Room rules.frame.heads rules.frame.n rules.sizes.rulecount W L G E → (count size : ℕ) → count ≤ size
-    → (new log : List ℕ) → length new ≡ W → size * 3 ≤ length log
-    → Sized rules.frame.letters rules.frame.heads rules.frame.n count rules.frame.states kept.families.all new log
-sized-at {L = L} rules kept room count size l new log ln ll =
+pub sized-at : {W L H G E : ℕ} (rules : Rules) (marks : Marks W) (kept : Kept W L H G E) → Room rules.frame.heads rules.frame.n rules.sizes.rulecount W L G E → (count size : ℕ) → count ≤ size
+    → (log : List ℕ) → size * 3 ≤ length log
+    → Sized rules.frame.letters rules.frame.heads rules.frame.n count rules.frame.states kept.families.all marks.more log
+sized-at {L = L} rules marks kept room count size l log ll =
     let many = mul-le-mul_right rules.frame.n (more rules.frame.heads L) in
     record {
       long = rules.frame.long;
@@ -191,7 +191,7 @@ sized-at {L = L} rules kept room count size l new log ln ll =
       rows = rules.frame.most;
       words = rules.frame.words;
       area = omega (arith, kept.families.area, room.area, many);
-      room = omega (arith, ln, room.area, many);
+      room = omega (arith, marks.newer, room.area, many);
       ends = omega (arith, ll, l);
     }
   where

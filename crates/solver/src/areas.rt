@@ -6,7 +6,7 @@ ghost use Rattle.rounds.specs.Solving.{solving_game};
 ghost use Rattle.unions.specs.ElementsOf.{ElementsOf};
 ghost use Rattle.solver.specs.Leaving.{leaving, called};
 ghost use Rattle.solver.specs.Given.{Given};
-ghost use Rattle.solver.specs.Rooms.{Numbers, Few, Narrow};
+ghost use Rattle.solver.specs.Rooms.{Narrow};
 
 use crate::saturating::rounds_in;
 use crate::solving::{Solved, walk_rounds};

@@ -49,7 +49,14 @@ pub fn rounds_in<
     let control = sizes.control as usize;
     let mut firsts = [0usize; FIRSTS];
     let mut nexts = [0usize; Game::MAX_RULES];
-    link(rules, sizes.rulecount, letters, control, &mut firsts, &mut nexts);
+    link(
+        rules,
+        sizes.rulecount,
+        letters,
+        control,
+        &mut firsts,
+        &mut nexts,
+    );
     let mut readers = [0u64; 644];
     mark_rules(rules, sizes.rulecount, &mut readers);
     let states = numbering.states;
@@ -84,8 +91,8 @@ pub fn rounds_in<
         gains: [0u64; 32],
         stirred: [0u64; 32],
     };
-    let mut new = [0u64; WORDS];
     let mut marks = Marks {
+        more: [0u64; WORDS],
         fresh: [0usize; 64],
         alive: [0usize; 64],
         news: [0u64; 32],
@@ -95,7 +102,6 @@ pub fn rounds_in<
         &rules,
         numbering.count,
         targets,
-        &mut new,
         &mut marks,
         &mut kept,
         table,
@@ -114,8 +120,7 @@ fn rounds_of<
     rules: &Rules<'_>,
     elements: usize,
     targets: &[u32],
-    new: &mut [u64; WORDS],
-    marks: &mut Marks,
+    marks: &mut Marks<WORDS>,
     kept: &mut Kept<WORDS, LINES, HINTS, GIVEN, ENDS>,
     table: &mut [u32],
     work: &mut [u32],
@@ -127,7 +132,7 @@ fn rounds_of<
         → Reads rules.now.bytes.now rules.now.sizes.rulecount rules.now.readers.now
         → Linked rules.now.bytes.now rules.now.sizes.rulecount rules.now.frame.letters rules.now.sizes.control rules.now.firsts.now rules.now.nexts.now
         → table.old ≡ replicate (m * 3) 0 → Few g elements rules.now.frame.n rules.now.frame.states rules.now.frame.numbers
-        → kept.old.families.count ≡ 0 → Blanks kept.old.families.all new.old kept.old.added kept.old.ends
+        → kept.old.families.count ≡ 0 → Blanks kept.old.families.all marks.old.more kept.old.added kept.old.ends
         → called result table.new work.new ≡ leaving (solving_game g m) (length table.old) (length work.old) }
 {
     let size = table.len() / EntryWords::STRIDE;
@@ -139,7 +144,7 @@ fn rounds_of<
         rules.frame.heads,
         rules.frame.n,
         &mut kept.families.all,
-        new,
+        &mut marks.more,
         work,
         size,
         &mut marks.news,
@@ -153,11 +158,11 @@ fn rounds_of<
         rules.frame.heads,
         rules.frame.n,
         &kept.families.all,
-        new,
+        &marks.more,
         &mut marks.fresh,
         &mut marks.alive,
     );
-    rounds_on(rules, new, marks, kept, table, work, first)
+    rounds_on(rules, marks, kept, table, work, first)
 }
 
 // The rounds after round 0, taken in order until settled. The work area has the entries in the order in which they came.
@@ -169,8 +174,7 @@ fn rounds_on<
     const ENDS: usize,
 >(
     rules: &Rules<'_>,
-    new: &mut [u64; WORDS],
-    marks: &mut Marks,
+    marks: &mut Marks<WORDS>,
     kept: &mut Kept<WORDS, LINES, HINTS, GIVEN, ENDS>,
     table: &mut [u32],
     log: &mut [u32],
@@ -182,7 +186,7 @@ fn rounds_on<
         → Reads rules.now.bytes.now rules.now.sizes.rulecount rules.now.readers.now
         → Linked rules.now.bytes.now rules.now.sizes.rulecount rules.now.frame.letters rules.now.sizes.control rules.now.firsts.now rules.now.nexts.now
         → table.old ≡ replicate (m * 3) 0
-        → Rested el g [] (round_zero g) 0 rules.now new.old marks.old kept.old log.old kept.old.families.count first
+        → Rested el g [] (round_zero g) 0 rules.now marks.old kept.old log.old kept.old.families.count first
         → called result table.new log.new ≡ leaving (solving_rounds g m) (length table.old) (length log.old) }
 {
     let size = table.len() / EntryWords::STRIDE;
@@ -192,14 +196,22 @@ fn rounds_on<
     let mut oldest = 0;
     loop {
         kept.families.count = lines_kept(kept.families.count, oldest, older, entries, size);
-        let Some(next) = take_round(rules, new, marks, kept, log, size, i + 1, entries) else {
+        let Some(next) = take_round(rules, marks, kept, log, size, i + 1, entries) else {
             if Game::MAX_ROUNDS <= i {
                 return give_up(table, log, Question::Rounds.at(i as usize + 1));
             }
             return give_up(table, log, Question::Entries.at(i as usize + 1));
         };
         if next == entries {
-            return settle(table, log, next, i, &kept.families.all, new, &rules.frame);
+            return settle(
+                table,
+                log,
+                next,
+                i,
+                &kept.families.all,
+                &mut marks.more,
+                &rules.frame,
+            );
         }
         if Game::MAX_ROUNDS <= i {
             return give_up(table, log, Question::Rounds.at(i as usize + 1));

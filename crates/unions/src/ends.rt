@@ -1,5 +1,5 @@
 // The ends of the runs of a rule, and what they have more than before.
-ghost use Rattle.std.specs.Prelude.{◌≡◌, true, false, List, ◌↔◌, ℕ, suc, ◌+◌, ◌*◌, ◌^◌, ◌<◌, ◌≤◌, length};
+ghost use Rattle.std.specs.Prelude.{◌≡◌, true, false, List, ◌↔◌, ℕ, ◌+◌, ◌*◌, ◌^◌, ◌<◌, ◌≤◌, length};
 ghost use Rattle.game.specs.Sets.{has};
 ghost use Rattle.game.specs.LowestLaws.{LowestOf};
 ghost use Rattle.game.specs.Game.{Rule, PushdownGame, word_of};
@@ -10,20 +10,18 @@ ghost use Rattle.family.specs.Masks.{Raising};
 ghost use Rattle.unions.specs.Pool.{Fits, Pool, Grew};
 ghost use Rattle.unions.specs.Ending.{Sum, OfWord, Picked, Choice, Sets, Masked, Growth, Listed, Ends, Before, NoSets, RuleFits, RuleEnds, RuleBefore};
 
+use crate::families::Frame;
 use crate::lines::family_of;
 use family::{copy_at, join_at, put_at, subsets_at};
 use game::Game;
 
 // What the ends of the runs of rule r have more than before.
+#[inline(always)]
 pub fn more_of_rule(
     more: &mut [u64],
     r: usize,
     rules: &[u8],
-    states: &[u8],
-    numbers: &[usize],
-    letters: usize,
-    heads: usize,
-    n: usize,
+    frame: &Frame,
     all: &mut [u64],
     new: &[u64],
     count: usize,
@@ -32,18 +30,17 @@ pub fn more_of_rule(
     hints: &mut [u32],
     fresh: &[usize],
     alive: &[usize],
-    raising: &[u64],
 ) -> usize
-    requires { Fits letters heads n states.now all.old keys.old rests.old hints.old × (letters ≤ 64)
-        × (count ≤ length keys.old) × (512 ≤ length raising.now) × (length new.now ≡ length all.old) × Masked numbers.now fresh.now alive.now
-        × RuleFits rules.now letters heads r × (r < 256) × (16 ≤ length more.old) }
-    ensures by_index { (el : List ℕ) (g : PushdownGame) (old es : List Entry) (i : ℕ) (rule : Rule) → Raising raising.now → letters ≡ g.letters
+    requires { Fits frame.now.letters frame.now.heads frame.now.n frame.now.states all.old keys.old rests.old hints.old
+        × (count ≤ length keys.old) × (length new.now ≡ length all.old) × Masked frame.now.numbers fresh.now alive.now
+        × RuleFits rules.now frame.now.letters frame.now.heads r × (r < 256) × (16 ≤ length more.old) }
+    ensures by_index { (el : List ℕ) (g : PushdownGame) (old es : List Entry) (i : ℕ) (rule : Rule) → Raising frame.now.raising.now → frame.now.letters ≡ g.letters
         → rule ≡ rule_at rules.now (r * 6) rule.number → GoodRule g.control g.letters rule → g.control ≤ g.states
-        → Growth el g n old es i numbers.now new.now fresh.now alive.now → (rule.count ≡ 0 → Listed el rule.to)
+        → Growth el g frame.now.n old es i frame.now.numbers new.now fresh.now alive.now → (rule.count ≡ 0 → Listed el rule.to)
         → NoSets more.old
-        → Pool el g n heads states.now es all.old keys.old rests.old count
-        → Pool el g n heads states.now es all.new keys.new rests.new result
-        × Grew el n more.new 0 (RuleEnds g es rule) (RuleBefore g old i rule) }
+        → Pool el g frame.now.n frame.now.heads frame.now.states es all.old keys.old rests.old count
+        → Pool el g frame.now.n frame.now.heads frame.now.states es all.new keys.new rests.new result
+        × Grew el frame.now.n more.new 0 (RuleEnds g es rule) (RuleBefore g old i rule) }
     ensures upper_bound { result ≤ length keys.old }
     ensures more_len_unchanged { length more.new ≡ length more.old }
     ensures all_len_unchanged { length all.new ≡ length all.old }
@@ -54,15 +51,11 @@ pub fn more_of_rule(
     let at = r * Game::RULE_STRIDE;
     more_ends(
         more,
-        byte_of(rules[at + 2]),
+        usize::from(rules[at + 2]),
         rules[at + 3],
-        byte_of(rules[at + 4]),
-        byte_of(rules[at + 5]),
-        states,
-        numbers,
-        letters,
-        heads,
-        n,
+        usize::from(rules[at + 4]),
+        usize::from(rules[at + 5]),
+        frame,
         all,
         new,
         count,
@@ -71,28 +64,18 @@ pub fn more_of_rule(
         hints,
         fresh,
         alive,
-        raising,
     )
 }
 
-pub fn byte_of(byte: u8) -> usize
-    ensures { result ≡ byte }
-{
-    byte as usize
-}
-
 // What the ends of runs from state q over a word have more than before: of no letters, of b, or of b above c. How many lines there are.
+#[inline(always)]
 pub fn more_ends(
     more: &mut [u64],
     q: usize,
     written: u8,
     b: usize,
     c: usize,
-    states: &[u8],
-    numbers: &[usize],
-    letters: usize,
-    heads: usize,
-    n: usize,
+    frame: &Frame,
     all: &mut [u64],
     new: &[u64],
     count: usize,
@@ -101,17 +84,16 @@ pub fn more_ends(
     hints: &mut [u32],
     fresh: &[usize],
     alive: &[usize],
-    raising: &[u64],
 ) -> usize
-    requires { Fits letters heads n states.now all.old keys.old rests.old hints.old × (c < letters) × (letters ≤ 64)
-        × (count ≤ length keys.old) × (512 ≤ length raising.now) × (16 ≤ length more.old) × (q * letters + letters ≤ heads) × (length new.now ≡ length all.old)
-        × (b < letters) × Masked numbers.now fresh.now alive.now × (q < 32) }
-    ensures by_index { (el : List ℕ) (g : PushdownGame) (old es : List Entry) (i : ℕ) → Raising raising.now → letters ≡ g.letters → q < g.states → written ≤ 2
-        → Growth el g n old es i numbers.now new.now fresh.now alive.now → (written ≡ 0 → Listed el q)
+    requires { Fits frame.now.letters frame.now.heads frame.now.n frame.now.states all.old keys.old rests.old hints.old × (c < frame.now.letters)
+        × (count ≤ length keys.old) × (16 ≤ length more.old) × (q * frame.now.letters + frame.now.letters ≤ frame.now.heads) × (length new.now ≡ length all.old)
+        × (b < frame.now.letters) × Masked frame.now.numbers fresh.now alive.now × (q < 32) }
+    ensures by_index { (el : List ℕ) (g : PushdownGame) (old es : List Entry) (i : ℕ) → Raising frame.now.raising.now → frame.now.letters ≡ g.letters → q < g.states → written ≤ 2
+        → Growth el g frame.now.n old es i frame.now.numbers new.now fresh.now alive.now → (written ≡ 0 → Listed el q)
         → NoSets more.old
-        → Pool el g n heads states.now es all.old keys.old rests.old count
-        → Pool el g n heads states.now es all.new keys.new rests.new result
-        × Grew el n more.new 0 (Ends g es q (word_of written b c)) (Before g old i q (word_of written b c)) }
+        → Pool el g frame.now.n frame.now.heads frame.now.states es all.old keys.old rests.old count
+        → Pool el g frame.now.n frame.now.heads frame.now.states es all.new keys.new rests.new result
+        × Grew el frame.now.n more.new 0 (Ends g es q (word_of written b c)) (Before g old i q (word_of written b c)) }
     ensures upper_bound { result ≤ length keys.old }
     ensures more_len_unchanged { length more.new ≡ length more.old }
     ensures all_len_unchanged { length all.new ≡ length all.old }
@@ -120,18 +102,17 @@ pub fn more_ends(
     ensures hints_len_unchanged { length hints.new ≡ length hints.old }
 {
     if written == 0 {
-        put_at(more, 0, numbers[q]);
+        put_at(more, 0, frame.numbers[q]);
         return count;
     }
-    let head = q * letters + b;
+    let head = q * frame.letters + b;
     if written == 1 {
-        copy_at(more, 0, new, head * n, n);
+        copy_at(more, 0, new, head * frame.n, frame.n);
         return count;
     }
     let still = 1023 ^ (1023 & fresh[c]);
     add_runs(
-        more, head, c, states, letters, heads, n, all, new, count, keys, rests, hints, still,
-        alive[c], raising,
+        more, head, c, frame, all, new, count, keys, rests, hints, still, alive[c],
     )
 }
 
@@ -141,10 +122,7 @@ fn add_runs(
     more: &mut [u64],
     head: usize,
     c: usize,
-    states: &[u8],
-    letters: usize,
-    heads: usize,
-    n: usize,
+    frame: &Frame,
     all: &mut [u64],
     new: &[u64],
     count: usize,
@@ -153,15 +131,14 @@ fn add_runs(
     hints: &mut [u32],
     still: usize,
     alive: usize,
-    raising: &[u64],
 ) -> usize
-    requires { Fits letters heads n states.now all.old keys.old rests.old hints.old × (c < letters) × (letters ≤ 64)
-        × (count ≤ length keys.old) × (512 ≤ length raising.now) × (n ≤ length more.old) × (head < heads) × (length new.now ≡ length all.old) × (still < 1024) × (alive < 1024) }
-    ensures by_index { (el : List ℕ) (g : PushdownGame) (es : List Entry) → Raising raising.now → letters ≡ g.letters
-        → Sets el n (head * n) all.old new.now
-        → Pool el g n heads states.now es all.old keys.old rests.old count
-        → Pool el g n heads states.now es all.new keys.new rests.new result
-        × Sum el g n es c (Picked n still alive all.old new.now (head * n)) more.old more.new }
+    requires { Fits frame.now.letters frame.now.heads frame.now.n frame.now.states all.old keys.old rests.old hints.old × (c < frame.now.letters)
+        × (count ≤ length keys.old) × (frame.now.n ≤ length more.old) × (head < frame.now.heads) × (length new.now ≡ length all.old) × (still < 1024) × (alive < 1024) }
+    ensures by_index { (el : List ℕ) (g : PushdownGame) (es : List Entry) → Raising frame.now.raising.now → frame.now.letters ≡ g.letters
+        → Sets el frame.now.n (head * frame.now.n) all.old new.now
+        → Pool el g frame.now.n frame.now.heads frame.now.states es all.old keys.old rests.old count
+        → Pool el g frame.now.n frame.now.heads frame.now.states es all.new keys.new rests.new result
+        × Sum el g frame.now.n es c (Picked frame.now.n still alive all.old new.now (head * frame.now.n)) more.old more.new }
     ensures upper_bound { result ≤ length keys.old }
     ensures more_len_unchanged { length more.new ≡ length more.old }
     ensures all_len_unchanged { length all.new ≡ length all.old }
@@ -169,31 +146,16 @@ fn add_runs(
     ensures rests_len_unchanged { length rests.new ≡ length rests.old }
     ensures hints_len_unchanged { length hints.new ≡ length hints.old }
 {
-    let at = head * n;
+    let at = head * frame.n;
     let mut lines = count;
-    for j in 0..n {
+    for j in 0..frame.n {
         let old = all[at + j];
         let young = new[at + j];
         if (old | young) == 0 {
             continue;
         }
-        let word = picked(old, young, j, still, alive, raising);
-        lines = add_word(
-            more,
-            word,
-            j * 64,
-            c,
-            states,
-            letters,
-            heads,
-            n,
-            all,
-            lines,
-            keys,
-            rests,
-            hints,
-            raising,
-        );
+        let word = picked(old, young, j, still, alive, frame.raising);
+        lines = add_word(more, word, j * 64, c, frame, all, lines, keys, rests, hints);
     }
     lines
 }
@@ -219,24 +181,20 @@ fn add_word(
     word: u64,
     from: usize,
     c: usize,
-    states: &[u8],
-    letters: usize,
-    heads: usize,
-    n: usize,
+    frame: &Frame,
     all: &mut [u64],
     count: usize,
     keys: &mut [u32],
     rests: &mut [u32],
     hints: &mut [u32],
-    raising: &[u64],
 ) -> usize
-    requires { Fits letters heads n states.now all.old keys.old rests.old hints.old × (c < letters) × (letters ≤ 64)
-        × (count ≤ length keys.old) × (512 ≤ length raising.now) × (n ≤ length more.old) × (from ≤ 960) × (from ≡ 0 → has word 0 ≡ false) }
-    ensures by_index { (el : List ℕ) (g : PushdownGame) (es : List Entry) → Raising raising.now → letters ≡ g.letters
+    requires { Fits frame.now.letters frame.now.heads frame.now.n frame.now.states all.old keys.old rests.old hints.old × (c < frame.now.letters)
+        × (count ≤ length keys.old) × (frame.now.n ≤ length more.old) × (from ≤ 960) × (from ≡ 0 → has word 0 ≡ false) }
+    ensures by_index { (el : List ℕ) (g : PushdownGame) (es : List Entry) → Raising frame.now.raising.now → frame.now.letters ≡ g.letters
         → ((s : ℕ) → s < 64 → has word s ≡ true → from + s < 2 ^ length el)
-        → Pool el g n heads states.now es all.old keys.old rests.old count
-        → Pool el g n heads states.now es all.new keys.new rests.new result
-        × Sum el g n es c (OfWord word from) more.old more.new }
+        → Pool el g frame.now.n frame.now.heads frame.now.states es all.old keys.old rests.old count
+        → Pool el g frame.now.n frame.now.heads frame.now.states es all.new keys.new rests.new result
+        × Sum el g frame.now.n es c (OfWord word from) more.old more.new }
     ensures upper_bound { result ≤ length keys.old }
     ensures more_len_unchanged { length more.new ≡ length more.old }
     ensures all_len_unchanged { length all.new ≡ length all.old }
@@ -248,21 +206,8 @@ fn add_word(
     let mut lines = count;
     while rest != 0 {
         let s = lowest_set(rest);
-        let found = family_of(
-            from + s,
-            c,
-            states,
-            letters,
-            heads,
-            n,
-            all,
-            lines,
-            keys,
-            rests,
-            hints,
-            raising,
-        );
-        join_at(more, 0, all, found.family * n, n);
+        let found = family_of(from + s, c, frame, all, lines, keys, rests, hints);
+        join_at(more, 0, all, found.family * frame.n, frame.n);
         lines = found.count;
         rest = rest & (rest - 1);
     }

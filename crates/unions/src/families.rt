@@ -3,8 +3,6 @@
 ghost use Rattle.std.specs.Prelude.{◌≡◌, ℕ, ◌+◌, ◌*◌, ◌<◌, ◌≤◌, length, get_or};
 ghost use Rattle.family.specs.Masks.{Raising};
 
-use family::RAISING;
-
 // How many letters and heads there are and how many words a family has, the states of the elements, each state's number as a set of
 // elements, and the table of masks.
 #[derive(Drop)]
@@ -14,16 +12,16 @@ pub struct Frame {
     pub n: usize,
     pub states: [u8; 16],
     pub numbers: [usize; 32],
-    pub raising: [u64; RAISING],
+    pub raising: &'static [u64],
     ghost long: { length states ≡ 16 },
     ghost wide: { length numbers ≡ 32 },
-    ghost masks: { 512 ≤ length raising },
+    ghost masks: { 512 ≤ length raising.now },
     ghost few: { letters ≤ 64 },
     ghost most: { heads ≤ 2048 },
     ghost words: { n ≤ 16 },
     ghost rows: { (i : ℕ) → i < 16 → get_or states i 0 * letters + letters ≤ heads },
     ghost small: { (q : ℕ) → q < 32 → get_or numbers q 0 < 1024 },
-    ghost raises: { Raising raising },
+    ghost raises: { Raising raising.now },
 }
 
 // The families of the heads and, after them, of `count` lines; of each line its set and letter, and the family of the set without its

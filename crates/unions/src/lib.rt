@@ -5,7 +5,6 @@
 // from the entries in the order in which they came. It leaves out who takes these ends and the rounds, which are those of `saturation`.
 #![tactic(auto)]
 
-mod bytes;
 mod elements;
 mod ends;
 mod families;
@@ -13,9 +12,8 @@ mod lines;
 mod pairs;
 mod writing;
 
-pub use bytes::number_of;
 pub use elements::{Numbering, element_set, elements_of};
-pub use ends::{byte_of, lowest_set, more_ends, more_of_rule};
+pub use ends::{lowest_set, more_ends, more_of_rule};
 pub use families::{Families, Frame};
 pub use lines::{Found, family_of, renew_lines};
 pub use writing::{put_entry, sets_in, write_entries};

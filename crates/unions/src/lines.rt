@@ -1,7 +1,7 @@
 // The families of the unions over a set and a letter: that of a head, where the set has one element, or a line. Lines are found by a
 // hint, which may be wrong, and made where they are missing, one element after another, the highest first. Where there is no room
 // for more, all lines are given up.
-ghost use Rattle.std.specs.Prelude.{◌≡◌, true, List, ℕ, suc, ◌+◌, ◌*◌, ◌%◌, ◌^◌, ◌<◌, ◌≤◌, length, get_or};
+ghost use Rattle.std.specs.Prelude.{◌≡◌, true, List, ℕ, suc, ◌+◌, ◌*◌, ◌%◌, ◌<◌, ◌≤◌, length, get_or};
 ghost use Rattle.game.specs.LowestLaws.{LowestOf};
 ghost use Rattle.game.specs.Game.{PushdownGame};
 ghost use Rattle.table.specs.Table.{Entry};
@@ -11,6 +11,7 @@ ghost use Rattle.unions.specs.PoolLaws.{Passing};
 ghost use Rattle.unions.specs.Finding.{Renewable, Renewing};
 ghost use Rattle.unions.specs.Finding.{Finds, Finding, Top, Kept};
 
+use crate::families::Frame;
 use crate::pairs::unite_pair;
 use family::{clear_at, copy_at, take_in, unite_into};
 
@@ -25,41 +26,35 @@ pub struct Found {
 pub fn family_of(
     x: usize,
     c: usize,
-    states: &[u8],
-    letters: usize,
-    heads: usize,
-    n: usize,
+    frame: &Frame,
     all: &mut [u64],
     count: usize,
     keys: &mut [u32],
     rests: &mut [u32],
     hints: &mut [u32],
-    raising: &[u64],
 ) -> Found
-    requires { Fits letters heads n states.now all.old keys.old rests.old hints.old × (0 < x) × (x < 1024) × (c < letters) × (letters ≤ 64)
-        × (count ≤ length keys.old) × (512 ≤ length raising.now) }
-    ensures finds { Finds letters heads n x c states.now raising.now all.old keys.old rests.old count
+    requires { Fits frame.now.letters frame.now.heads frame.now.n frame.now.states all.old keys.old rests.old hints.old × (0 < x) × (x < 1024) × (c < frame.now.letters)
+        × (count ≤ length keys.old) }
+    ensures finds { Finds frame.now.letters frame.now.heads frame.now.n x c frame.now.states frame.now.raising.now all.old keys.old rests.old count
         all.new keys.new rests.new result.family result.count }
-    ensures family_bound { (result.family < heads + result.count) × (result.count ≤ length keys.old) }
+    ensures family_bound { (result.family < frame.now.heads + result.count) × (result.count ≤ length keys.old) }
     ensures all_len_unchanged { length all.new ≡ length all.old }
     ensures keys_len_unchanged { length keys.new ≡ length keys.old }
     ensures rests_len_unchanged { length rests.new ≡ length rests.old }
     ensures hints_len_unchanged { length hints.new ≡ length hints.old }
 {
     if (x & (x - 1)) == 0 {
-        let family = head_of(states, lowest(x), letters, c);
+        let family = head_of(&frame.states, lowest(x), frame.letters, c);
         return Found { family, count };
     }
-    let line = hint_at(hints, n, x, c);
+    let line = hint_at(hints, frame.n, x, c);
     if is_line(keys, count, line, x, c) {
         return Found {
-            family: heads + line,
+            family: frame.heads + line,
             count,
         };
     }
-    make_lines(
-        x, c, states, letters, heads, n, all, count, keys, rests, hints, raising,
-    )
+    make_lines(x, c, frame, all, count, keys, rests, hints)
 }
 
 // The family of the head of an element and a letter.
@@ -67,13 +62,7 @@ fn head_of(states: &[u8], i: usize, letters: usize, c: usize) -> usize
     requires { (length states.now ≡ 16) × (i < 16) × (letters ≤ 64) × (c < letters) }
     ensures { result ≡ get_or states.now i 0 * letters + c }
 {
-    state_at(states[i]) * letters + c
-}
-
-fn state_at(state: u8) -> usize
-    ensures { (result ≡ state) × (result < 256) }
-{
-    state as usize
+    usize::from(states[i]) * letters + c
 }
 
 // The lowest element of a set.
@@ -96,13 +85,7 @@ fn highest(x: usize) -> usize
 fn hint_at(hints: &[u32], n: usize, x: usize, c: usize) -> usize
     requires { (0 < length hints.now) × (n ≤ 16) × (x < 1024) × (c < 64) }
 {
-    line_at(hints[place_of(hints.len(), n, x, c)])
-}
-
-fn line_at(line: u32) -> usize
-    ensures { (result ≡ line) × (result < 4294967296) }
-{
-    line as usize
+    hints[place_of(hints.len(), n, x, c)] as usize
 }
 
 // Letter by letter the place of each set of a family of n words, as far as there are places; then from the first on again.
@@ -139,22 +122,18 @@ fn key_of(x: usize, c: usize) -> u32
 fn make_lines(
     x: usize,
     c: usize,
-    states: &[u8],
-    letters: usize,
-    heads: usize,
-    n: usize,
+    frame: &Frame,
     all: &mut [u64],
     count: usize,
     keys: &mut [u32],
     rests: &mut [u32],
     hints: &mut [u32],
-    raising: &[u64],
 ) -> Found
-    requires { Fits letters heads n states.now all.old keys.old rests.old hints.old × (0 < x) × (x < 1024) × (c < letters) × (letters ≤ 64)
-        × (count ≤ length keys.old) × (512 ≤ length raising.now) }
-    ensures finds { Finds letters heads n x c states.now raising.now all.old keys.old rests.old count
+    requires { Fits frame.now.letters frame.now.heads frame.now.n frame.now.states all.old keys.old rests.old hints.old × (0 < x) × (x < 1024) × (c < frame.now.letters)
+        × (count ≤ length keys.old) }
+    ensures finds { Finds frame.now.letters frame.now.heads frame.now.n x c frame.now.states frame.now.raising.now all.old keys.old rests.old count
         all.new keys.new rests.new result.family result.count }
-    ensures family_bound { (result.family < heads + result.count) × (result.count ≤ length keys.old) }
+    ensures family_bound { (result.family < frame.now.heads + result.count) × (result.count ≤ length keys.old) }
     ensures all_len_unchanged { length all.new ≡ length all.old }
     ensures keys_len_unchanged { length keys.new ≡ length keys.old }
     ensures rests_len_unchanged { length rests.new ≡ length rests.old }
@@ -163,27 +142,13 @@ fn make_lines(
     let top = highest(x);
     let mut rest = x % (1usize << top);
     let mut found = Found {
-        family: head_of(states, top, letters, c),
+        family: head_of(&frame.states, top, frame.letters, c),
         count: room_after(count, keys.len()),
     };
     while rest != 0 {
         let s = highest(rest);
         rest = rest % (1usize << s);
-        found = line_for(
-            x - rest,
-            s,
-            c,
-            states,
-            letters,
-            heads,
-            n,
-            all,
-            found,
-            keys,
-            rests,
-            hints,
-            raising,
-        );
+        found = line_for(x - rest, s, c, frame, all, found, keys, rests, hints);
     }
     found
 }
@@ -204,32 +169,28 @@ fn line_for(
     y: usize,
     s: usize,
     c: usize,
-    states: &[u8],
-    letters: usize,
-    heads: usize,
-    n: usize,
+    frame: &Frame,
     all: &mut [u64],
     before: Found,
     keys: &mut [u32],
     rests: &mut [u32],
     hints: &mut [u32],
-    raising: &[u64],
 ) -> Found
-    requires { Fits letters heads n states.now all.old keys.old rests.old hints.old × (y < 1024) × (s < 10) × (c < letters) × (letters ≤ 64)
-        × (before.count < length keys.old) × (before.family < heads + before.count) × (512 ≤ length raising.now) }
-    ensures finding { Finding letters heads n y s c states.now raising.now all.old keys.old rests.old before.family before.count
+    requires { Fits frame.now.letters frame.now.heads frame.now.n frame.now.states all.old keys.old rests.old hints.old × (y < 1024) × (s < 10) × (c < frame.now.letters)
+        × (before.count < length keys.old) × (before.family < frame.now.heads + before.count) }
+    ensures finding { Finding frame.now.letters frame.now.heads frame.now.n y s c frame.now.states frame.now.raising.now all.old keys.old rests.old before.family before.count
         all.new keys.new rests.new result.family result.count }
-    ensures family_bound { (result.family < heads + result.count) × (result.count ≤ before.count + 1) }
+    ensures family_bound { (result.family < frame.now.heads + result.count) × (result.count ≤ before.count + 1) }
     ensures all_len_unchanged { length all.new ≡ length all.old }
     ensures keys_len_unchanged { length keys.new ≡ length keys.old }
     ensures rests_len_unchanged { length rests.new ≡ length rests.old }
     ensures hints_len_unchanged { length hints.new ≡ length hints.old }
 {
-    let line = hint_at(hints, n, y, c);
+    let line = hint_at(hints, frame.n, y, c);
     let count = before.count;
     if is_line(keys, count, line, y, c) {
         return Found {
-            family: heads + line,
+            family: frame.heads + line,
             count,
         };
     }
@@ -238,92 +199,100 @@ fn line_for(
     unite_pair(
         &mut unions,
         all,
-        family * n,
-        head_of(states, s, letters, c) * n,
-        raising,
-        n,
+        family * frame.n,
+        head_of(&frame.states, s, frame.letters, c) * frame.n,
+        frame.raising,
+        frame.n,
     );
-    copy_at(all, (heads + count) * n, &unions, 0, n);
+    copy_at(all, (frame.heads + count) * frame.n, &unions, 0, frame.n);
     keys[count] = key_of(y, c);
     rests[count] = family as u32;
-    let place = place_of(hints.len(), n, y, c);
+    let place = place_of(hints.len(), frame.n, y, c);
     hints[place] = count as u32;
     Found {
-        family: heads + count,
+        family: frame.heads + count,
         count: count + 1,
     }
 }
 
 // Brings every line up to a table: what is new in the heads, with anything. `fresh` has for each letter the elements with a new
 // transition. What each line has more is left in `new`.
+#[inline(always)]
 pub fn renew_lines(
-    states: &[u8],
-    letters: usize,
-    heads: usize,
-    n: usize,
+    frame: &Frame,
     all: &mut [u64],
     new: &mut [u64],
     count: usize,
     keys: &[u32],
     rests: &[u32],
     fresh: &[usize],
-    raising: &[u64],
 )
-    requires { Renewable letters heads n states.now all.old new.old keys.now rests.now fresh.now × (letters ≤ 64) × (count ≤ length keys.now) × (512 ≤ length raising.now) }
-    ensures by_index { (el : List ℕ) (g : PushdownGame) (old es : List Entry) → Raising raising.now → letters ≡ g.letters
-        → Renewing el g n heads states.now old es fresh.now keys.now rests.now count
-        → Passing el g n heads keys.now old es all.old new.old 0 count
-        → Passing el g n heads keys.now old es all.new new.new count count }
+    requires { Renewable frame.now.letters frame.now.heads frame.now.n frame.now.states all.old new.old keys.now rests.now fresh.now × (count ≤ length keys.now) }
+    ensures by_index { (el : List ℕ) (g : PushdownGame) (old es : List Entry) → Raising frame.now.raising.now → frame.now.letters ≡ g.letters
+        → Renewing el g frame.now.n frame.now.heads frame.now.states old es fresh.now keys.now rests.now count
+        → Passing el g frame.now.n frame.now.heads keys.now old es all.old new.old 0 count
+        → Passing el g frame.now.n frame.now.heads keys.now old es all.new new.new count count }
     ensures all_len_unchanged { length all.new ≡ length all.old }
     ensures len_unchanged { length new.new ≡ length new.old }
 {
     for k in 0..count {
-        renew_line(
-            k, states, letters, heads, n, all, new, keys, rests, fresh, raising,
-        );
+        renew_line(k, frame, all, new, keys, rests, fresh);
     }
 }
 
 // The same for one line. The tests of letter and rest never fail.
+#[inline(always)]
 fn renew_line(
     k: usize,
-    states: &[u8],
-    letters: usize,
-    heads: usize,
-    n: usize,
+    frame: &Frame,
     all: &mut [u64],
     new: &mut [u64],
     keys: &[u32],
     rests: &[u32],
     fresh: &[usize],
-    raising: &[u64],
 )
-    requires { Renewable letters heads n states.now all.old new.old keys.now rests.now fresh.now × (letters ≤ 64) × (k < length keys.now) × (512 ≤ length raising.now) }
-    ensures by_index { (el : List ℕ) (g : PushdownGame) (old es : List Entry) (count : ℕ) → Raising raising.now → letters ≡ g.letters → k < count
-        → Renewing el g n heads states.now old es fresh.now keys.now rests.now count
-        → Passing el g n heads keys.now old es all.old new.old k count
-        → Passing el g n heads keys.now old es all.new new.new (suc k) count }
+    requires { Renewable frame.now.letters frame.now.heads frame.now.n frame.now.states all.old new.old keys.now rests.now fresh.now × (k < length keys.now) }
+    ensures by_index { (el : List ℕ) (g : PushdownGame) (old es : List Entry) (count : ℕ) → Raising frame.now.raising.now → frame.now.letters ≡ g.letters → k < count
+        → Renewing el g frame.now.n frame.now.heads frame.now.states old es fresh.now keys.now rests.now count
+        → Passing el g frame.now.n frame.now.heads keys.now old es all.old new.old k count
+        → Passing el g frame.now.n frame.now.heads keys.now old es all.new new.new (suc k) count }
     ensures all_len_unchanged { length all.new ≡ length all.old }
     ensures len_unchanged { length new.new ≡ length new.old }
 {
-    let key = line_at(keys[k]);
+    let key = keys[k] as usize;
     let x = key % 1024;
     let c = key / 1024;
-    let rest = line_at(rests[k]);
-    let to = (heads + k) * n;
-    if letters <= c {
+    let rest = rests[k] as usize;
+    let to = (frame.heads + k) * frame.n;
+    if frame.letters <= c {
         return;
     }
-    if heads + k <= rest {
+    if frame.heads + k <= rest {
         return;
     }
     if (x & fresh[c]) == 0 {
-        clear_at(new, to, n);
+        clear_at(new, to, frame.n);
         return;
     }
-    let head = head_of(states, lowest(x), letters, c);
+    let head = head_of(&frame.states, lowest(x), frame.letters, c);
     let mut more = [0u64; 16];
-    unite_into(&mut more, all, rest * n, new, head * n, raising, n);
-    unite_into(&mut more, all, head * n, new, rest * n, raising, n);
-    take_in(all, new, to, &more, n);
+    unite_into(
+        &mut more,
+        all,
+        rest * frame.n,
+        new,
+        head * frame.n,
+        frame.raising,
+        frame.n,
+    );
+    unite_into(
+        &mut more,
+        all,
+        head * frame.n,
+        new,
+        rest * frame.n,
+        frame.raising,
+        frame.n,
+    );
+    take_in(all, new, to, &more, frame.n);
 }

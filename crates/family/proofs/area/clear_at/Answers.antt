@@ -1,6 +1,6 @@
 use borrow.Author.Rules.{rules}
 use native.Mathlib.Omega.{arith}
-use mathlib.Core.Path.{refl, ◌∙◌}
+use mathlib.Core.Path.{◌∙◌}
 use lib.ListN.{length-set}
 use Rattle.family.proofs.Areas.{walk-part, none, cleared-all, cleared-one, cleared-two, cleared-four}
 use Rattle.family.proofs.area.clear_at.Goals as goal

@@ -1,6 +1,5 @@
 use borrow.Author.Rules.{rules}
 use native.Mathlib.Omega.{arith}
-use mathlib.Core.Path.{refl}
 use lib.ListN.{length-set}
 use Rattle.std.proofs.lemmas.List.{places}
 use Rattle.family.proofs.Areas.{walk-part, copied, copied_all, copied-one, copied-two, copied-four}

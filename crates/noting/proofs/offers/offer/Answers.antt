@@ -1,6 +1,6 @@
 use lib.ListN.{length-set}
 use native.Mathlib.Omega.{arith}
-use mathlib.Core.Path.{refl, ◌∙◌}
+use mathlib.Core.Path.{refl}
 use Rattle.noting.proofs.Giving.{giving-starts, giving-full, giving-on, giving-none, giving-skips, giving-ends}
 use Rattle.unions.specs.PlaceLaws.{place-small}
 use Rattle.noting.proofs.offers.offer.Goals as goal

@@ -12,13 +12,13 @@ returns-then-written-eq0 c =
 pub returns-then-written-eq1 : goal.returns-then-written-eq1
 returns-then-written-eq1 c =
     record {
-      marked = marked-one _ _ _ _ _ _ _ c.number_of.ensures.0 c.number_of-2.ensures.0 (λ e. absurd (c.if-written-eq0.false e)) c.put_at-2.ensures.put c.put_at-3.ensures.put c.if-written-eq1.true;
+      marked = marked-one _ _ _ _ _ _ _ c.from.ensures c.from-2.ensures (λ e. absurd (c.if-written-eq0.false e)) c.put_at-2.ensures.put c.put_at-3.ensures.put c.if-written-eq1.true;
       readers_len_unchanged = search rules;
     }
 
 pub returns : goal.returns
 returns c =
     record {
-      marked = marked-two _ _ _ _ _ _ _ c.number_of.ensures.0 c.number_of-2.ensures.0 (λ e. absurd (c.if-written-eq0.false e)) c.put_at-2.ensures.put c.put_at-3.ensures.put _ _ c.number_of-3.ensures.0 c.put_at-4.ensures.put;
+      marked = marked-two _ _ _ _ _ _ _ c.from.ensures c.from-2.ensures (λ e. absurd (c.if-written-eq0.false e)) c.put_at-2.ensures.put c.put_at-3.ensures.put _ _ c.from-3.ensures c.put_at-4.ensures.put;
       readers_len_unchanged = search rules;
     }

@@ -3,10 +3,10 @@ use mathlib.Core.Path.{refl}
 use Rattle.saturation.proofs.AbelardHeads.{not_none, step-offer}
 use Rattle.saturation.proofs.heads.take_head.Goals as goal
 
-pub returns-then-rulecount-first : goal.returns-then-rulecount-first
-returns-then-rulecount-first c =
+pub returns-then-rules-first : goal.returns-then-rules-first
+returns-then-rules-first c =
     record {
-      by_index = (λ el g old es now i rules abelard control letters stirred k lp la eh on taking adding spared. absurd (not_none el g _ old es i abelard control letters _ rules _ stirred _ _ _ _ k _ _ lp la _ eh on c.if-rulecount-first.true));
+      by_index = (λ el g old es now i rules abelard control letters stirred k lp la eh on taking adding spared. absurd (not_none el g _ old es i abelard control letters _ rules _ stirred _ _ _ _ k _ _ lp la _ eh on c.if-rules-first.true));
       upper_bound = omega (arith, c.requires.1);
       added_len_unchanged = refl;
       gains_len_unchanged = refl;

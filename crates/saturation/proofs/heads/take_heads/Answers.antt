@@ -8,13 +8,13 @@ pub loop-p-init : goal.loop-p-init
 loop-p-init c = going-starts _ _ _ _ _ _ _ _ _ _ _ _ _ _ _ _ _ c.requires.1
 
 pub offset_bounds-stirred-p : goal.offset_bounds-stirred-p
-offset_bounds-stirred-p c = omega (arith, c.loop-p-test.true, c.requires.4)
+offset_bounds-stirred-p c = omega (arith, c.loop-p-test.true, c.args.rules.now.controls)
 
 pub bounds-stirred-p : goal.bounds-stirred-p
-bounds-stirred-p c = omega (arith, c.loop-p-test.true, c.requires.4, c.requires.10)
+bounds-stirred-p c = omega (arith, c.loop-p-test.true, c.args.rules.now.controls, c.requires.6)
 
 pub take_row-requires : goal.take_row-requires
-take_row-requires c = (omega (arith, c.requires.0, c.loop-p.invariant.logs), c.loop-p.invariant.room, c.requires.2, c.requires.3, omega (arith, c.loop-p-test.true, c.requires.4), c.requires.5, row_in _ _ _ _ _ _ c.loop-p-test.true c.requires.6 refl, row_in _ _ _ _ _ _ c.loop-p-test.true c.requires.7 c.loop-p.invariant.adds, c.requires.8, c.requires.9, rows_in _ _ _ _ c.loop-p-test.true c.requires.11, c.requires.12, c.requires.13, c.requires.14, c.requires.15, c.loop-p.invariant.gaining ∙ c.requires.16)
+take_row-requires c = (omega (arith, c.requires.0, c.loop-p.invariant.logs), c.loop-p.invariant.room, c.requires.2, omega (arith, c.loop-p-test.true, c.args.rules.now.controls), row_in _ _ _ _ _ _ c.loop-p-test.true c.requires.3 refl, row_in _ _ _ _ _ _ c.loop-p-test.true c.requires.4 c.loop-p.invariant.adds, c.requires.5, rows_in _ _ _ _ c.loop-p-test.true c.args.rules.now.first, c.requires.7, c.loop-p.invariant.gaining ∙ c.requires.8)
 
 pub returns-in_err-entries-clause-by_index : goal.returns-in_err-entries-clause-by_index
 returns-in_err-entries-clause-by_index c =

@@ -8,7 +8,7 @@ use Rattle.saturation.proofs.HeadLoop.{his, row_other, rowing-starts, rowing-pas
 use Rattle.saturation.proofs.heads.take_row.Goals as goal
 
 pub overflow_cast-p : goal.overflow_cast-p
-overflow_cast-p c = omega (arith, c.requires.4)
+overflow_cast-p c = omega (arith, c.requires.3)
 
 pub has_state-requires : goal.has_state-requires
 has_state-requires c = tt
@@ -29,19 +29,19 @@ loop-rest-init c = rowing-starts _ _ _ _ _ _ _ _ _ _ _ _ _ _ _ _ _ c.requires.1
 pub lowest_set-a-requires : goal.lowest_set-a-requires
 lowest_set-a-requires c = omega (arith, c.loop-rest-test.true)
 
-pub shape_of-added-then-letters-a : goal.shape_of-added-then-letters-a
-shape_of-added-then-letters-a c = c.loop-rest.invariant.adds
+pub shape_of-added-then-rules-a : goal.shape_of-added-then-rules-a
+shape_of-added-then-rules-a c = c.loop-rest.invariant.adds
 
-pub shape_of-gains-then-letters-a : goal.shape_of-gains-then-letters-a
-shape_of-gains-then-letters-a c = c.loop-rest.invariant.gaining
+pub shape_of-gains-then-rules-a : goal.shape_of-gains-then-rules-a
+shape_of-gains-then-rules-a c = c.loop-rest.invariant.gaining
 
-pub shape_of-log-then-letters-a : goal.shape_of-log-then-letters-a
-shape_of-log-then-letters-a c = c.loop-rest.invariant.logs
+pub shape_of-log-then-rules-a : goal.shape_of-log-then-rules-a
+shape_of-log-then-rules-a c = c.loop-rest.invariant.logs
 
-pub returns-then-letters-a : goal.returns-then-letters-a
-returns-then-letters-a c =
+pub returns-then-rules-a : goal.returns-then-rules-a
+returns-then-rules-a c =
     record {
-      by_index = (λ el g old es now i rules control stirred k lp ew taking adding spared. rowing-past _ _ _ _ _ _ _ _ _ _ _ _ _ _ _ _ _ c.loop-rest.invariant _ (omega (arith, c.loop-rest-test.true)) c.lowest_set-a.ensures c.if-letters-a.true el g old es now i rules control stirred k lp ew (his k _ c.has_state.ensures (ap not c.if-not-has_state.false)) taking adding spared);
+      by_index = (λ el g old es now i rules control stirred k lp ew taking adding spared. rowing-past _ _ _ _ _ _ _ _ _ _ _ _ _ _ _ _ _ c.loop-rest.invariant _ (omega (arith, c.loop-rest-test.true)) c.lowest_set-a.ensures c.if-rules-a.true el g old es now i rules control stirred k lp ew (his k _ c.has_state.ensures (ap not c.if-not-has_state.false)) taking adding spared);
       upper_bound = omega (arith, c.loop-rest.invariant.room);
       added_len_unchanged = c.loop-rest.invariant.adds;
       gains_len_unchanged = c.loop-rest.invariant.gaining;
@@ -49,17 +49,17 @@ returns-then-letters-a c =
     }
 
 pub overflow_mul-p : goal.overflow_mul-p
-overflow_mul-p c = omega (arith, few-heads c.args.p c.args.letters (omega (arith, c.requires.4)) c.requires.5)
+overflow_mul-p c = omega (arith, few-heads c.args.p c.args.rules.now.frame.letters (omega (arith, c.requires.3)) c.args.rules.now.frame.few)
 
 pub overflow_add-p : goal.overflow_add-p
-overflow_add-p c = omega (arith, few-heads c.args.p c.args.letters (omega (arith, c.requires.4)) c.requires.5, c.if-letters-a.false, c.requires.5)
+overflow_add-p c = omega (arith, few-heads c.args.p c.args.rules.now.frame.letters (omega (arith, c.requires.3)) c.args.rules.now.frame.few, c.if-rules-a.false, c.args.rules.now.frame.few)
 
 pub take_head-requires : goal.take_head-requires
-take_head-requires c = (omega (arith, c.requires.0, c.loop-rest.invariant.logs), c.loop-rest.invariant.room, c.requires.2, c.requires.3, c.requires.4, c.lowest_set-a.ensures.small, head_few _ _ _ c.requires.4 c.requires.5 c.if-letters-a.false, place-in-row _ _ _ _ _ _ c.if-letters-a.false c.requires.6 refl, place-in-row _ _ _ _ _ _ c.if-letters-a.false c.requires.7 c.loop-rest.invariant.adds, c.requires.8, c.requires.9, omega (arith, c.if-letters-a.false, c.requires.10), c.requires.11, c.requires.12, c.requires.13, c.requires.14, c.loop-rest.invariant.gaining ∙ c.requires.15)
+take_head-requires c = (omega (arith, c.requires.0, c.loop-rest.invariant.logs), c.loop-rest.invariant.room, c.requires.2, c.requires.3, c.lowest_set-a.ensures.small, head_few _ _ _ c.requires.3 c.args.rules.now.frame.few c.if-rules-a.false, place-in-row _ _ _ _ _ _ c.if-rules-a.false c.requires.4 refl, place-in-row _ _ _ _ _ _ c.if-rules-a.false c.requires.5 c.loop-rest.invariant.adds, c.requires.6, omega (arith, c.if-rules-a.false, c.requires.7), c.requires.8, c.loop-rest.invariant.gaining ∙ c.requires.9)
 
 pub returns-in_err-entries-clause-by_index : goal.returns-in_err-entries-clause-by_index
 returns-in_err-entries-clause-by_index c =
-    λ el g old es now i rules control stirred k lp ew taking adding spared. rw c.from_residual.ensures (rowing-full _ _ _ _ _ _ _ _ _ _ _ _ _ _ _ _ _ c.loop-rest.invariant _ (omega (arith, c.loop-rest-test.true)) c.lowest_set-a.ensures c.if-letters-a.false (rw c.in_err-entries.was at c.take_head.ensures.by_index) (omega arith) el g old es now i rules control stirred k lp ew (his k _ c.has_state.ensures (ap not c.if-not-has_state.false)) taking adding spared)
+    λ el g old es now i rules control stirred k lp ew taking adding spared. rw c.from_residual.ensures (rowing-full _ _ _ _ _ _ _ _ _ _ _ _ _ _ _ _ _ c.loop-rest.invariant _ (omega (arith, c.loop-rest-test.true)) c.lowest_set-a.ensures c.if-rules-a.false (rw c.in_err-entries.was at c.take_head.ensures.by_index) (omega arith) el g old es now i rules control stirred k lp ew (his k _ c.has_state.ensures (ap not c.if-not-has_state.false)) taking adding spared)
 
 pub overflow_sub-rest : goal.overflow_sub-rest
 overflow_sub-rest c = omega (arith, c.loop-rest-test.true)
@@ -68,7 +68,7 @@ pub loop-rest-smaller : goal.loop-rest-smaller
 loop-rest-smaller c = cleared-falls _ (omega (arith, c.loop-rest-test.true))
 
 pub loop-rest-preserved : goal.loop-rest-preserved
-loop-rest-preserved c = rowing-on _ _ _ _ _ _ _ _ _ _ _ _ _ _ _ _ _ c.loop-rest.invariant _ (omega (arith, c.loop-rest-test.true)) c.lowest_set-a.ensures c.if-letters-a.false (rw c.in_ok-entries.was at c.take_head.ensures.by_index) (rw c.in_ok-entries.was at c.take_head.ensures.upper_bound) c.take_head.ensures.added_len_unchanged c.take_head.ensures.gains_len_unchanged c.take_head.ensures.log_len_unchanged
+loop-rest-preserved c = rowing-on _ _ _ _ _ _ _ _ _ _ _ _ _ _ _ _ _ c.loop-rest.invariant _ (omega (arith, c.loop-rest-test.true)) c.lowest_set-a.ensures c.if-rules-a.false (rw c.in_ok-entries.was at c.take_head.ensures.by_index) (rw c.in_ok-entries.was at c.take_head.ensures.upper_bound) c.take_head.ensures.added_len_unchanged c.take_head.ensures.gains_len_unchanged c.take_head.ensures.log_len_unchanged
 
 pub shape_of-added : goal.shape_of-added
 shape_of-added c = c.loop-rest.invariant.adds

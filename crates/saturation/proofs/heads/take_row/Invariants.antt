@@ -5,7 +5,7 @@ use Rattle.saturation.proofs.heads.take_row.Given as goal
 -- round does not. What falls is the word of the marks left. Assumes what the contract requires.
 abbrev pub invariant-loop-rest : goal.invariant-loop-rest
 invariant-loop-rest l =
-    Rowing l.abelard l.p l.word l.letters l.rulecount l.n l.ends l.firsts l.nexts l.raising l.all l.initial.added l.initial.gains l.initial.log l.count l.size l.birthdate l.added l.gains l.log l.entries l.rest
+    Rowing l.rules.sizes.abelard l.p l.word l.rules.frame.letters l.rules.sizes.rulecount l.rules.frame.n l.ends l.rules.firsts.now l.rules.nexts.now l.rules.frame.raising.now l.all l.initial.added l.initial.gains l.initial.log l.count l.size l.birthdate l.added l.gains l.log l.entries l.rest
 
 abbrev pub decreases-loop-rest : goal.decreases-loop-rest
 decreases-loop-rest l =

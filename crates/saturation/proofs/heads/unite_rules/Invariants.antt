@@ -6,7 +6,7 @@ use Rattle.saturation.proofs.heads.unite_rules.Given as goal
 -- Assumes what the contract requires.
 abbrev pub invariant-loop-r : goal.invariant-loop-r
 invariant-loop-r l =
-    Unites l.n l.ends l.rulecount l.nexts l.raising l.first l.initial.sets l.sets l.r
+    Unites l.rules.frame.n l.ends l.rules.sizes.rulecount l.rules.nexts.now l.rules.frame.raising.now l.first l.initial.sets l.sets l.r
 
 abbrev pub decreases-loop-r : goal.decreases-loop-r
-decreases-loop-r l = l.rulecount - l.r
+decreases-loop-r l = l.rules.sizes.rulecount - l.r

@@ -1,5 +1,4 @@
 use native.Mathlib.Omega.{arith}
-use mathlib.Core.Path.{refl, ◌∙◌}
 use mathlib.Core.Logic.{inl, inr, ⊎_elim}
 use Rattle.saturation.proofs.RoundTurns.{rows_are, kept_next, adding-next, gains-next, further, within-next, rest-again}
 use Rattle.saturation.proofs.round.take_round.Goals as goal

@@ -1,5 +1,5 @@
 use native.Mathlib.Omega.{arith}
-use mathlib.Core.Path.{refl, sym}
+use mathlib.Core.Path.{refl}
 use Rattle.solver.proofs.Beginnings.{bounded, small-heads, numbers_of, few-of, rooms-of, more_rows}
 use Rattle.solver.proofs.areas.rounds_by.Goals as goal
 

@@ -1,5 +1,5 @@
-use Rattle.std.proofs.Common.{rules, arith, ℕ}
-use mathlib.Core.Path.{refl, sym, ◌∙◌}
+use Rattle.std.proofs.Common.{arith, ℕ}
+use mathlib.Core.Path.{refl}
 use lib.ListN.{length-replicate}
 use Rattle.solver.proofs.Beginnings.{bounded, rule_fits, head-fits, head_bytes, more_rows, zeros-small, room-of, blanks-zero}
 use Rattle.solver.proofs.saturating.rounds_in.Goals as goal
@@ -41,7 +41,7 @@ invariant_of-rules g c =
     }
 
 pub invariant_of-marks : goal.invariant_of-marks
-invariant_of-marks g c = record { freshes = refl; alives = refl; tidings = refl; holding = refl; few = λ k l. zeros-small 64 k }
+invariant_of-marks g c = record { newer = length-replicate {A = ℕ} g.row.WORDS 0; freshes = refl; alives = refl; tidings = refl; holding = refl; few = λ k l. zeros-small 64 k }
 
 pub rounds_of-requires : goal.rounds_of-requires
 rounds_of-requires g c =

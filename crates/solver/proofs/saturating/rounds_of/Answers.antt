@@ -7,9 +7,6 @@ use Rattle.solver.proofs.RoundsTaken.{leaving-at}
 use Rattle.solver.proofs.RoundOrder.{zero-over, zero-within}
 use Rattle.solver.proofs.RestTurns.{room-is}
 use Rattle.solver.proofs.Beginnings.{bounded, held-targets, lettered, controlled, stated, targeted, layout_of, bare, heads-are, rest-zero, room-in}
-use borrow.Author.Rules.{rules}
-use mathlib.Core.Path.{◌≡◌}
-use lib.ListN.{length}
 use Rattle.solver.proofs.saturating.rounds_of.Goals as goal
 
 pub returns-in_default : goal.returns-in_default
@@ -19,8 +16,7 @@ pub note_targets-requires : goal.note_targets-requires
 note_targets-requires g c =
     let b = bounded c.requires.0.1 in
     let f = c.args.rules.now.frame in
-    let k = c.args.kept.now.families in
-    let long : length c.args.new.now ≡ g.row.WORDS = search rules in (
+    let k = c.args.kept.now.families in (
       omega (arith, c.requires.1),
       omega (arith, c.requires.2),
       b.targets-few,
@@ -30,7 +26,7 @@ note_targets-requires g c =
       f.most,
       f.words,
       omega (arith, k.area, room-in c.requires.5),
-      long ∙ sym k.area,
+      c.args.marks.now.newer ∙ sym k.area,
       f.few,
       c.args.marks.now.tidings,
     )

@@ -3,7 +3,7 @@ use mathlib.Core.Path.{refl, sym, ap, ◌∙◌}
 use lib.ListN.{length}
 use Rattle.rounds.specs.RoundLaws.{round_table}
 use Rattle.solver.proofs.RoundsTaken.{leaving-at}
-use Rattle.solver.proofs.RestTurns.{rests-start, kept-few, rests-kept, room-is, noted-last, ends-settled, ends_last, ends-full, rests-next, sized-at}
+use Rattle.solver.proofs.RestTurns.{rests-start, rests-kept, room-is, noted-last, ends-settled, ends_last, ends-full, rests-next}
 use Rattle.solver.proofs.saturating.rounds_on.Goals as goal
 
 pub loop-next-init : goal.loop-next-init

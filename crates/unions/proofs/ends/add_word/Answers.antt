@@ -7,22 +7,22 @@ use Rattle.unions.proofs.Summing.{wording-starts, wording-on, wording-ends, some
 use Rattle.unions.proofs.ends.add_word.Goals as goal
 
 pub loop-rest-init : goal.loop-rest-init
-loop-rest-init c = wording-starts _ _ _ _ _ _ _ _ _ _ _ _ _ _ c.requires.3
+loop-rest-init c = wording-starts _ _ _ _ _ _ _ _ _ _ _ _ _ _ c.requires.2
 
 pub lowest_set-s-requires : goal.lowest_set-s-requires
 lowest_set-s-requires c = omega (arith, c.loop-rest-test.true)
 
 pub overflow_add-from : goal.overflow_add-from
-overflow_add-from c = omega (arith, c.requires.6, c.lowest_set-s.ensures.small)
+overflow_add-from c = omega (arith, c.requires.4, c.lowest_set-s.ensures.small)
 
 pub family_of-found-requires : goal.family_of-found-requires
-family_of-found-requires c = (fits_on c.requires.0 c.loop-rest.invariant.areas c.loop-rest.invariant.keyed c.loop-rest.invariant.resting c.loop-rest.invariant.hinting, some-set _ _ _ _ c.requires.7 c.loop-rest.invariant.left c.lowest_set-s.ensures, omega (arith, c.requires.6, c.lowest_set-s.ensures.small), c.requires.1, c.requires.2, omega (arith, c.loop-rest.invariant.room, c.loop-rest.invariant.keyed), c.requires.4)
+family_of-found-requires c = (fits_on c.requires.0 c.loop-rest.invariant.areas c.loop-rest.invariant.keyed c.loop-rest.invariant.resting c.loop-rest.invariant.hinting, some-set _ _ _ _ c.requires.5 c.loop-rest.invariant.left c.lowest_set-s.ensures, omega (arith, c.requires.4, c.lowest_set-s.ensures.small), c.requires.1, omega (arith, c.loop-rest.invariant.room, c.loop-rest.invariant.keyed))
 
 pub overflow_mul-found : goal.overflow_mul-found
 overflow_mul-found c = (let few = c.requires.0.few in let most = c.requires.0.most in omega (arith, place-small c.family_of-found.result.family _ (omega (arith, few, most, c.family_of-found.ensures.family_bound, c.loop-rest.invariant.keyed)) c.requires.0.words))
 
 pub join_at-requires : goal.join_at-requires
-join_at-requires c = (omega (arith, c.requires.5, c.loop-rest.invariant.mores), omega (arith, within-area _ _ _ _ _ _ _ _ c.requires.0 c.family_of-found.result.family c.family_of-found.result.count c.family_of-found.ensures.family_bound.0 (omega (arith, c.family_of-found.ensures.family_bound.1, c.loop-rest.invariant.keyed)), c.loop-rest.invariant.areas, c.family_of-found.ensures.all_len_unchanged))
+join_at-requires c = (omega (arith, c.requires.3, c.loop-rest.invariant.mores), omega (arith, within-area _ _ _ _ _ _ _ _ c.requires.0 c.family_of-found.result.family c.family_of-found.result.count c.family_of-found.ensures.family_bound.0 (omega (arith, c.family_of-found.ensures.family_bound.1, c.loop-rest.invariant.keyed)), c.loop-rest.invariant.areas, c.family_of-found.ensures.all_len_unchanged))
 
 pub overflow_sub-rest : goal.overflow_sub-rest
 overflow_sub-rest c = omega (arith, c.loop-rest-test.true)

@@ -15,10 +15,10 @@ pub nonzero_rem-rest : goal.nonzero_rem-rest
 nonzero_rem-rest c = one-positive _ c.highest-top.ensures.small
 
 pub head_of-requires : goal.head_of-requires
-head_of-requires c = (c.requires.0.long, omega (arith, c.highest-top.ensures.small), c.requires.4, c.requires.3)
+head_of-requires c = (c.requires.0.long, omega (arith, c.highest-top.ensures.small), c.args.frame.now.few, c.requires.3)
 
 pub room_after-requires : goal.room_after-requires
-room_after-requires c = c.requires.5
+room_after-requires c = c.requires.4
 
 pub loop-rest-init : goal.loop-rest-init
 loop-rest-init c = made-first _ _ _ _ _ _ _ _ _ _ _ _ _ _ _ _ c.highest-top.ensures (one_shifted _ c.highest-top.ensures.small) c.requires.2 c.head_of.ensures (head-within _ _ _ _ _ _ _ _ c.requires.0 _ _ _ c.highest-top.ensures.small c.requires.3 c.head_of.ensures) c.requires.0.some c.room_after.ensures
@@ -36,7 +36,7 @@ pub overflow_sub-x : goal.overflow_sub-x
 overflow_sub-x c = omega (arith, made-small _ _ _ _ _ _ _ _ _ _ _ _ c.loop-rest.invariant, made-less _ _ _ _ _ _ _ _ _ _ _ _ _ _ _ _ _ _ _ c.loop-rest.invariant c.requires.2 _ _ c.highest-s.ensures (one_shifted _ c.highest-s.ensures.small))
 
 pub line_for-found-requires : goal.line_for-found-requires
-line_for-found-requires c = (fits_on c.requires.0 c.loop-rest.invariant.areas c.loop-rest.invariant.keyed c.loop-rest.invariant.resting c.loop-rest.invariant.hinting, omega (arith, c.requires.2), c.highest-s.ensures.small, c.requires.3, c.requires.4, made-room _ _ _ _ _ _ _ _ _ _ _ _ _ _ _ _ _ _ _ c.loop-rest.invariant c.requires.2 _ _ c.highest-s.ensures (one_shifted _ c.highest-s.ensures.small), c.loop-rest.invariant.placed, c.requires.6)
+line_for-found-requires c = (fits_on c.requires.0 c.loop-rest.invariant.areas c.loop-rest.invariant.keyed c.loop-rest.invariant.resting c.loop-rest.invariant.hinting, omega (arith, c.requires.2), c.highest-s.ensures.small, c.requires.3, made-room _ _ _ _ _ _ _ _ _ _ _ _ _ _ _ _ _ _ _ c.loop-rest.invariant c.requires.2 _ _ c.highest-s.ensures (one_shifted _ c.highest-s.ensures.small), c.loop-rest.invariant.placed)
 
 pub loop-rest-smaller : goal.loop-rest-smaller
 loop-rest-smaller c = made-less _ _ _ _ _ _ _ _ _ _ _ _ _ _ _ _ _ _ _ c.loop-rest.invariant c.requires.2 _ _ c.highest-s.ensures (one_shifted _ c.highest-s.ensures.small)

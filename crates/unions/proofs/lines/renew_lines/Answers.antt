@@ -7,7 +7,7 @@ pub loop-k-init : goal.loop-k-init
 loop-k-init c = record { below = omega arith; areas = refl; news = refl; passes = λ el g old es ra lt r p. p }
 
 pub renew_line-requires : goal.renew_line-requires
-renew_line-requires c = (renewable-on c.requires.0 c.loop-k.invariant.areas c.loop-k.invariant.news, c.requires.1, omega (arith, c.loop-k-test.true, c.requires.2), c.requires.3)
+renew_line-requires c = (renewable-on c.requires.0 c.loop-k.invariant.areas c.loop-k.invariant.news, omega (arith, c.loop-k-test.true, c.requires.1))
 
 pub loop-k-preserved : goal.loop-k-preserved
 loop-k-preserved c = renewed-on c.loop-k.invariant c.loop-k-test.true c.renew_line.ensures.by_index c.renew_line.ensures.all_len_unchanged c.renew_line.ensures.len_unchanged

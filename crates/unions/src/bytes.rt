@@ -1,8 +1,0 @@
-// Bytes as numbers that index.
-ghost use Rattle.std.specs.Prelude.{◌≡◌, ◌<◌};
-
-pub fn number_of(byte: u8) -> usize
-    ensures { (result ≡ byte) × (result < 256) }
-{
-    byte as usize
-}
