@@ -3,7 +3,7 @@ use Prim.Native.Nat.{ℕ, ◌*◌, ◌/◌, ◌%◌, ◌≤◌}
 use native.Mathlib.Omega.{arith}
 use mathlib.Core.Path.{◌≡◌, sym, ap, ◌∙◌}
 use mathlib.Core.Bool.{true, false, ◌&&◌}
-use mathlib.Core.List.{List, [], ◌∷◌}
+use mathlib.Core.List.{List}
 use lib.ListN.{length, replicate, length-replicate}
 use lib.Dec.{eqb, leb}
 use borrow.Author.Tests.{eq-eqb, ne_eqb, leb-true}
@@ -12,7 +12,7 @@ use Rattle.game.specs.ListLaws.{both}
 use Rattle.game.specs.Game.{PushdownGame}
 use Rattle.game.specs.Held.{held}
 use Rattle.game.specs.GoodGame.{Good}
-use Rattle.game.specs.Outcome.{Outcome, done, refused, after, number, said}
+use Rattle.game.specs.Outcome.{Outcome, done, refused, after, said}
 use Rattle.game.specs.Questions.{reading}
 use Rattle.game.specs.Stored.{padded, stored, held_sizes, as_stored, Reports}
 use Rattle.std.specs.Prelude.{Result, Err}
@@ -23,7 +23,7 @@ use Rattle.game.specs.declared.game.Sizes.{Sizes}
 use Rattle.table.specs.Table.{length_in_form, entry_stride}
 use Rattle.rounds.specs.Solving.{Solved, solving_game, solving_words}
 use Rattle.rounds.proofs.Solution.{in-entries}
-use Rattle.solver.specs.Leaving.{leaving, called, solve_call, Answer}
+use Rattle.solver.specs.Leaving.{leaving, called, solve_call}
 use Rattle.solver.specs.Given.{Given}
 
 -- a refusal of reading refuses whatever comes after it, and both areas are left zero

@@ -4,8 +4,5 @@ use Rattle.solver.proofs.solving.all_rounds.Goals as goal
 pub elements_of-numbering-requires : goal.elements_of-numbering-requires
 elements_of-numbering-requires c = ((bounded c.requires.0.1).rules-fit, (bounded c.requires.0.1).targets-fit)
 
-pub rounds_by-requires : goal.rounds_by-requires
-rounds_by-requires c = (c.requires.0, c.requires.1, c.requires.2, c.elements_of-numbering.ensures.by_index_2)
-
 pub returns : goal.returns
 returns c = λ g m given zeros. c.rounds_by.ensures g m given zeros (λ few. c.elements_of-numbering.ensures.by_index g (held-targets given) few)

@@ -1,12 +1,6 @@
 use Rattle.solver.proofs.RoundsTaken.{refused-left}
 use Rattle.solver.proofs.solving.give_up.Goals as goal
 
-pub shape_of-begun : goal.shape_of-begun
-shape_of-begun c = c.fill.ensures.len
-
-pub shape_of-work : goal.shape_of-work
-shape_of-work c = c.fill-2.ensures.len
-
 pub returns : goal.returns
 returns c =
     record {

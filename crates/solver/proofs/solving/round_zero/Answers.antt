@@ -1,5 +1,5 @@
 use native.Mathlib.Omega.{arith}
-use mathlib.Core.Path.{refl, ◌∙◌}
+use mathlib.Core.Path.{refl}
 use Rattle.rounds.proofs.StoredRows.{long_of}
 use Rattle.solver.proofs.Targets.{adding-starts, adding-next, adding-stops, adding-ends, counted, many, state-small, letter-small, entry-small}
 use Rattle.solver.proofs.solving.round_zero.Goals as goal
@@ -7,20 +7,8 @@ use Rattle.solver.proofs.solving.round_zero.Goals as goal
 pub loop-t-init : goal.loop-t-init
 loop-t-init c = (omega arith, λ g n h e. adding-starts g n _ e)
 
-pub overflow_mul-at : goal.overflow_mul-at
-overflow_mul-at c = omega (arith, counted _ _ _ _ c.requires.1, many _ _ _ _ c.requires.1)
-
-pub offset_bounds-targets-at : goal.offset_bounds-targets-at
-offset_bounds-targets-at c = omega (arith, counted _ _ _ _ c.requires.1, many _ _ _ _ c.requires.1)
-
 pub bounds-targets-at : goal.bounds-targets-at
 bounds-targets-at c = omega (arith, counted _ _ _ _ c.requires.1, many _ _ _ _ c.requires.1)
-
-pub overflow_add-entry : goal.overflow_add-entry
-overflow_add-entry c = omega (arith, counted _ _ _ _ c.requires.1, many _ _ _ _ c.requires.1)
-
-pub offset_bounds-targets-at-in-loop-t : goal.offset_bounds-targets-at-in-loop-t
-offset_bounds-targets-at-in-loop-t c = omega (arith, counted _ _ _ _ c.requires.1, many _ _ _ _ c.requires.1)
 
 pub bounds-targets-at-in-loop-t : goal.bounds-targets-at-in-loop-t
 bounds-targets-at-in-loop-t c = omega (arith, counted _ _ _ _ c.requires.1, many _ _ _ _ c.requires.1)
@@ -30,12 +18,6 @@ overflow_mul-entry c = omega (arith, letter-small _ _ _ _ c.requires.1 _ c.loop-
 
 pub overflow_add-entry-in-loop-t : goal.overflow_add-entry-in-loop-t
 overflow_add-entry-in-loop-t c = omega (arith, letter-small _ _ _ _ c.requires.1 _ c.loop-t-test.true, state-small _ _ _ _ c.requires.1 _ c.loop-t-test.true)
-
-pub overflow_add-entry-in-loop-t-2 : goal.overflow_add-entry-in-loop-t-2
-overflow_add-entry-in-loop-t-2 c = omega (arith, counted _ _ _ _ c.requires.1, many _ _ _ _ c.requires.1)
-
-pub offset_bounds-targets-at-in-loop-t-2 : goal.offset_bounds-targets-at-in-loop-t-2
-offset_bounds-targets-at-in-loop-t-2 c = omega (arith, counted _ _ _ _ c.requires.1, many _ _ _ _ c.requires.1)
 
 pub bounds-targets-at-in-loop-t-2 : goal.bounds-targets-at-in-loop-t-2
 bounds-targets-at-in-loop-t-2 c = omega (arith, counted _ _ _ _ c.requires.1, many _ _ _ _ c.requires.1)

@@ -1,9 +1,8 @@
 use Prim.Native.Nat.{ℕ, ◌<◌}
 use Rattle.std.specs.Prelude.{Option}
 use native.Mathlib.Omega.{arith}
-use mathlib.Core.Path.{refl, sym, ap, subst, ◌∙◌}
+use mathlib.Core.Path.{refl, sym, subst, ◌∙◌}
 use mathlib.Core.List.{List}
-use lib.ListN.{length}
 use Rattle.rounds.specs.RoundLaws.{round_table}
 use Rattle.rounds.proofs.RoundLaws.{round-ranged}
 use Rattle.rounds.specs.Filled.{Stored, number_of}
@@ -16,47 +15,14 @@ use Rattle.solver.proofs.solving.rounds_from.Goals as goal
 pub loop-sizes-init : goal.loop-sizes-init
 loop-sizes-init c = (omega arith, refl, refl, c.requires.3, λ g n h good st. taken-zero g n _ _ st)
 
-pub copy_from_slice-requires : goal.copy_from_slice-requires
-copy_from_slice-requires c = c.loop-sizes.invariant.2 ∙ sym c.requires.2 ∙ sym c.loop-sizes.invariant.1
-
-pub overflow_add-i : goal.overflow_add-i
-overflow_add-i c = omega (arith, c.loop-sizes.invariant.0)
-
-pub take_wide-next-requires : goal.take_wide-next-requires
-take_wide-next-requires c = (c.requires.0, c.requires.1, omega (arith, c.loop-sizes.invariant.3, ap length c.copy_from_slice.ensures.after), omega (arith, c.loop-sizes.invariant.0))
-
 pub returns-then-eq : goal.returns-then-eq
 returns-then-eq c = λ g n h good st. let t = c.loop-sizes.invariant.4 g n h good st in cleared_at (solved_with c.loop-sizes.count c.loop-sizes.i) _ (c.fill.ensures.after (λ y e. e)) (c.copy_from_slice.ensures.len ∙ c.loop-sizes.invariant.2) ∙ turn-settled g n _ _ _ t good _ _ (c.take_wide-next.ensures.filled g (round_table g c.loop-sizes.i) n h good (round-ranged g good c.loop-sizes.i).1 (subst (λ (w : List ℕ). Stored n w c.loop-sizes.count (round_table g c.loop-sizes.i)) (sym c.copy_from_slice.ensures.after) t.stored) t.stored (round-past g good n c.loop-sizes.i)) (same-number n _ c.take_wide-next.result (sym c.eq.ensures ∙ c.if-eq.true)) _ _
-
-pub overflow_cast-i : goal.overflow_cast-i
-overflow_cast-i c = omega arith
-
-pub overflow_add-i-then-i-ge-MAX_ROUNDS : goal.overflow_add-i-then-i-ge-MAX_ROUNDS
-overflow_add-i-then-i-ge-MAX_ROUNDS c = omega (arith, c.loop-sizes.invariant.0)
-
-pub shape_of-table-then-i-ge-MAX_ROUNDS : goal.shape_of-table-then-i-ge-MAX_ROUNDS
-shape_of-table-then-i-ge-MAX_ROUNDS c = c.give_up.auto.begun ∙ (c.take_wide-next.auto.table ∙ c.loop-sizes.invariant.1)
-
-pub shape_of-work-then-i-ge-MAX_ROUNDS : goal.shape_of-work-then-i-ge-MAX_ROUNDS
-shape_of-work-then-i-ge-MAX_ROUNDS c = c.give_up.auto.work ∙ (c.copy_from_slice.ensures.len ∙ c.loop-sizes.invariant.2)
 
 pub returns-then-i-ge-MAX_ROUNDS : goal.returns-then-i-ge-MAX_ROUNDS
 returns-then-i-ge-MAX_ROUNDS c = λ g n h good st. let t = c.loop-sizes.invariant.4 g n h good st in (rw c.at.ensures at c.give_up.ensures.work_after) ∙ leaving-at _ (c.take_wide-next.auto.table ∙ c.loop-sizes.invariant.1) (c.copy_from_slice.ensures.len ∙ c.loop-sizes.invariant.2) ∙ sym (turn_last g n _ _ _ t good _ _ (c.take_wide-next.ensures.filled g (round_table g c.loop-sizes.i) n h good (round-ranged g good c.loop-sizes.i).1 (subst (λ (w : List ℕ). Stored n w c.loop-sizes.count (round_table g c.loop-sizes.i)) (sym c.copy_from_slice.ensures.after) t.stored) t.stored (round-past g good n c.loop-sizes.i)) (other-number n _ c.take_wide-next.result (omega (arith, t.stored.counted, t.stored.fits)) (sym c.eq.ensures ∙ c.if-eq.false)) c.if-i-ge-MAX_ROUNDS.true _ _)
 
-pub overflow_cast-i-in_default : goal.overflow_cast-i-in_default
-overflow_cast-i-in_default c = omega arith
-
-pub overflow_add-i-in_default : goal.overflow_add-i-in_default
-overflow_add-i-in_default c = omega (arith, c.loop-sizes.invariant.0)
-
 pub returns-in_default : goal.returns-in_default
 returns-in_default c = λ g n h good st. let t = c.loop-sizes.invariant.4 g n h good st in (rw c.at-in_default.ensures at c.give_up-in_default.ensures.work_after) ∙ leaving-at _ (c.take_wide-next.auto.table ∙ c.loop-sizes.invariant.1) (c.copy_from_slice.ensures.len ∙ c.loop-sizes.invariant.2) ∙ sym (turn-full g n _ _ _ t good _ _ (c.take_wide-next.ensures.filled g (round_table g c.loop-sizes.i) n h good (round-ranged g good c.loop-sizes.i).1 (subst (λ (w : List ℕ). Stored n w c.loop-sizes.count (round_table g c.loop-sizes.i)) (sym c.copy_from_slice.ensures.after) t.stored) t.stored (round-past g good n c.loop-sizes.i)) (other-number n _ c.take_wide-next.result (omega (arith, t.stored.counted, t.stored.fits)) (sym c.eq.ensures ∙ c.if-eq.false)) c.if-i-ge-MAX_ROUNDS.false (subst (λ (r : Option ℕ). n < number_of n r) (sym c.in_default.is) (omega arith)) _ _)
-
-pub overflow_add-i-in-loop-sizes : goal.overflow_add-i-in-loop-sizes
-overflow_add-i-in-loop-sizes c = omega (arith, c.loop-sizes.invariant.0)
-
-pub loop-sizes-smaller : goal.loop-sizes-smaller
-loop-sizes-smaller c = omega (arith, c.loop-sizes.invariant.0, c.if-i-ge-MAX_ROUNDS.false)
 
 pub loop-sizes-preserved : goal.loop-sizes-preserved
 loop-sizes-preserved c =
