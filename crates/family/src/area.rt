@@ -26,7 +26,6 @@ pub fn is_empty_at(words: &[u64], at: usize, n: usize) -> bool
 pub fn put_at(words: &mut [u64], at: usize, x: usize)
     requires { at + x / 64 < length words.old }
     ensures put { Put words.old at x words.new }
-    ensures words_len_unchanged { length words.new ≡ length words.old }
 {
     let i = at + x / 64;
     words[i] = words[i] | (1u64 << (x % 64));
@@ -36,7 +35,6 @@ pub fn put_at(words: &mut [u64], at: usize, x: usize)
 pub fn clear_at(words: &mut [u64], at: usize, n: usize)
     requires { at + n ≤ length words.old }
     ensures cleared { Cleared words.old at n words.new }
-    ensures words_len_unchanged { length words.new ≡ length words.old }
 {
     if n == 1 {
         words[at] = 0;
@@ -61,7 +59,6 @@ pub fn clear_at(words: &mut [u64], at: usize, n: usize)
 pub fn copy_at(words: &mut [u64], to: usize, others: &[u64], at: usize, n: usize)
     requires { (to + n ≤ length words.old) × (at + n ≤ length others.now) }
     ensures copied { Copied words.old to n others.now at words.new }
-    ensures words_len_unchanged { length words.new ≡ length words.old }
 {
     if n == 1 {
         words[to] = others[at];
@@ -86,7 +83,6 @@ pub fn copy_at(words: &mut [u64], to: usize, others: &[u64], at: usize, n: usize
 pub fn join_at(words: &mut [u64], to: usize, others: &[u64], at: usize, n: usize)
     requires { (to + n ≤ length words.old) × (at + n ≤ length others.now) }
     ensures joined { Joined words.old to n others.now at words.new }
-    ensures words_len_unchanged { length words.new ≡ length words.old }
 {
     if n == 1 {
         words[to] = words[to] | others[at];
@@ -101,7 +97,6 @@ pub fn join_at(words: &mut [u64], to: usize, others: &[u64], at: usize, n: usize
 pub fn remove_at(words: &mut [u64], to: usize, others: &[u64], at: usize, n: usize)
     requires { (to + n ≤ length words.old) × (at + n ≤ length others.now) }
     ensures without { Without words.old to n others.now at words.new }
-    ensures words_len_unchanged { length words.new ≡ length words.old }
 {
     for i in 0..n {
         words[to + i] = words[to + i] ^ (words[to + i] & others[at + i]);
@@ -113,8 +108,6 @@ pub fn remove_at(words: &mut [u64], to: usize, others: &[u64], at: usize, n: usi
 pub fn take_in(all: &mut [u64], new: &mut [u64], to: usize, d: &[u64], n: usize)
     requires { (to + n ≤ length all.old) × (to + n ≤ length new.old) × (n ≤ length d.now) }
     ensures taken_in { TakenIn n d.now to all.old all.new new.old new.new }
-    ensures all_len_unchanged { length all.new ≡ length all.old }
-    ensures len_unchanged { length new.new ≡ length new.old }
 {
     if n == 1 {
         let v = d[0] ^ (d[0] & all[to]);
@@ -134,7 +127,6 @@ pub fn take_more(all: &mut [u64], to: usize, d: &[u64], n: usize) -> bool
     requires { (to + n ≤ length all.old) × (n ≤ length d.now) }
     ensures joined { Joined all.old to n d.now 0 all.new }
     ensures x_value { result ≡ false → (x : ℕ) → x / 64 < n → holds d.now 0 x ≡ true → holds all.old to x ≡ true }
-    ensures all_len_unchanged { length all.new ≡ length all.old }
 {
     if n == 1 {
         let v = d[0] ^ (d[0] & all[to]);

@@ -18,7 +18,6 @@ pub fn unite_into(
 )
     requires { (16 ≤ length out.old) × (at + n ≤ length a.now) × (bt + n ≤ length b.now) × (512 ≤ length raising.now) × (n ≤ 16) }
     ensures unites_into { Raising raising.now → UnitesInto n a.now at b.now bt out.old out.new }
-    ensures out_len_unchanged { length out.new ≡ length out.old }
 {
     if n == 1 {
         out[0] = out[0] | unite_by(raising, a[at], b[bt]);
@@ -37,7 +36,6 @@ pub fn unite_into(
 fn unite_with(out: &mut [u64], a: &[u64], at: usize, word: u64, i: usize, raising: &[u64], n: usize)
     requires { (16 ≤ length out.old) × (at + n ≤ length a.now) × (i < n) × (512 ≤ length raising.now) × (n ≤ 16) }
     ensures row { Raising raising.now → Row n word i a.now at out.old out.new }
-    ensures out_len_unchanged { length out.new ≡ length out.old }
 {
     let mut p = i;
     while p < n {

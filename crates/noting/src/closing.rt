@@ -148,13 +148,6 @@ pub fn close_heads(
         → AllWithin el after → ((k : ℕ) → k < length el → get_or numbers.now (get_or el k 0) 0 ≡ 2 ^ k) → Dead el g es alive.old
         → Ready el g n es after all.new new.new added.new × Fresh el g es after fresh.new × Dead el g after alive.new × NoNews g es after news.new }
     ensures elsewhere { Elsewhere 0 (heads * n) all.old all.new × ((c : ℕ) → c < 64 → get_or alive.new c 0 < 1024) }
-    ensures all_len_unchanged { length all.new ≡ length all.old }
-    ensures len_unchanged { length new.new ≡ length new.old }
-    ensures added_len_unchanged { length added.new ≡ length added.old }
-    ensures fresh_len_unchanged { length fresh.new ≡ length fresh.old }
-    ensures alive_len_unchanged { length alive.new ≡ length alive.old }
-    ensures news_len_unchanged { length news.new ≡ length news.old }
-    ensures gains_len_unchanged { length gains.new ≡ length gains.old }
 {
     fresh.fill(0);
     close_rows(

@@ -29,8 +29,6 @@ pub fn set_masks(
         → HeadsHold el g n es all.now → HeadsGrew el g n old es new.now
         → Fresh el g old es fresh.new × Dead el g es alive.new }
     ensures by_index_2 { ((c : ℕ) → c < 64 → get_or alive.old c 0 < 1024) → (c : ℕ) → c < 64 → get_or alive.new c 0 < 1024 }
-    ensures fresh_len_unchanged { length fresh.new ≡ length fresh.old }
-    ensures alive_len_unchanged { length alive.new ≡ length alive.old }
 {
     for c in 0..letters {
         fresh[c] = mark(count, states, letters, heads, n, new, c);

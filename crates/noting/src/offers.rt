@@ -31,7 +31,6 @@ pub fn note_word(
         → first ≡ first_word p a b → p < g.control → a < g.letters → ((s : ℕ) → s < 64 → has word s ≡ true → Offer el g es now' p a rule (from + s))
         → Noting el g es b size (OfWord word from) p a now' log.new (counted size result) }
     ensures upper_bound { IfSome result (λ k. k ≤ size) }
-    ensures log_len_unchanged { length log.new ≡ length log.old }
 {
     let mut entries = count;
     let mut rest = word;
@@ -69,8 +68,6 @@ pub fn offer(
         → HeadsHold el g n es all.now → Adding el g n es now' added.old → Offered el g n es now' p a rule d.now at
         → Given el g n es b size p a now' d.now at log.new added.new (counted size result) }
     ensures upper_bound { IfSome result (λ k. k ≤ size) }
-    ensures added_len_unchanged { length added.new ≡ length added.old }
-    ensures log_len_unchanged { length log.new ≡ length log.old }
 {
     let mut entries = count;
     for j in 0..n {
@@ -112,9 +109,6 @@ pub fn give(
         → Spared g es now' gains.old
         → Gave el g n es b size p a now' d.now at gains.new log.new added.new (counted size result) }
     ensures upper_bound { IfSome result (λ k. k ≤ size) }
-    ensures added_len_unchanged { length added.new ≡ length added.old }
-    ensures gains_len_unchanged { length gains.new ≡ length gains.old }
-    ensures log_len_unchanged { length log.new ≡ length log.old }
 {
     let entries = offer(d, at, head, n, all, added, log, count, size, first, rule)?;
     if entries == count {

@@ -12,7 +12,6 @@ pub fn mark_rules(rules: &[u8], count: usize, readers: &mut [u64])
     requires { (count ≤ 256) × (count * 6 ≤ length rules.now) × (length readers.old ≡ 644)
         × ((r : ℕ) → r < count → (get_or rules.now (r * 6 + 2) 0 < 32) × (get_or rules.now (r * 6 + 4) 0 < 64) × (get_or rules.now (r * 6 + 5) 0 < 64)) }
     ensures reads { Reads rules.now count readers.new }
-    ensures readers_len_unchanged { length readers.new ≡ length readers.old }
 {
     for r in 0..count {
         mark_rule(rules, r, readers);
@@ -23,7 +22,6 @@ pub fn mark_rules(rules: &[u8], count: usize, readers: &mut [u64])
 fn mark_rule(rules: &[u8], r: usize, readers: &mut [u64])
     requires { (r < 256) × (length readers.old ≡ 644) × Readable rules.now r }
     ensures marked { Marked rules.now r readers.old readers.new }
-    ensures readers_len_unchanged { length readers.new ≡ length readers.old }
 {
     let at = r * Game::RULE_STRIDE;
     let written = rules[at + 3];
@@ -56,8 +54,6 @@ pub fn find_active(
     requires { (states ≤ 32) × (letters ≤ 64) × (length news.now ≡ 32) × (length fresh.now ≡ 64) × (length readers.now ≡ 644) × (length held.old ≡ 4) × (length active.old ≡ 4) }
     ensures by_index { (rules : List ℕ) (count r : ℕ) → Reads rules count readers.now → r < count → r < 256 → get_or rules (r * 6 + 2) 0 < states → get_or rules (r * 6 + 4) 0 < 64 → get_or rules (r * 6 + 5) 0 < letters
         → Left rules r news.now fresh.now is_first held.old held.new active.new }
-    ensures held_len_unchanged { length held.new ≡ length held.old }
-    ensures active_len_unchanged { length active.new ≡ length active.old }
 {
     find_first(states, news, readers, active);
     join_at(held, 0, active, 0, 4);
@@ -72,7 +68,6 @@ pub fn find_active(
 fn find_first(states: usize, news: &[u64], readers: &[u64], active: &mut [u64])
     requires { (states ≤ 32) × (length news.now ≡ 32) × (length readers.now ≡ 644) × (length active.old ≡ 4) }
     ensures first_to { FirstTo states news.now readers.now active.old active.new }
-    ensures active_len_unchanged { length active.new ≡ length active.old }
 {
     for q in 0..states {
         find_started(news[q], q * 4, readers, active);
@@ -83,7 +78,6 @@ fn find_first(states: usize, news: &[u64], readers: &[u64], active: &mut [u64])
 fn find_started(word: u64, at: usize, readers: &[u64], active: &mut [u64])
     requires { (at ≤ 640) × (length readers.now ≡ 644) × (length active.old ≡ 4) }
     ensures started { Started word at readers.now active.old active.new }
-    ensures active_len_unchanged { length active.new ≡ length active.old }
 {
     if word == 0 {
         return;
@@ -97,7 +91,6 @@ fn find_started(word: u64, at: usize, readers: &[u64], active: &mut [u64])
 fn sum_above(sum: &mut [u64], word: u64, readers: &[u64])
     requires { (length sum.old ≡ 4) × (length readers.now ≡ 644) }
     ensures summed { Summed word readers.now sum.new }
-    ensures sum_len_unchanged { length sum.new ≡ length sum.old }
 {
     let mut rest = word;
     while rest != 0 {
@@ -111,7 +104,6 @@ fn sum_above(sum: &mut [u64], word: u64, readers: &[u64])
 fn put_common(active: &mut [u64], some: &[u64], readers: &[u64], at: usize)
     requires { (at ≤ 640) × (length readers.now ≡ 644) × (length some.now ≡ 4) × (length active.old ≡ 4) }
     ensures met { Met active.old some.now readers.now at active.new }
-    ensures active_len_unchanged { length active.new ≡ length active.old }
 {
     for w in 0..4 {
         active[w] = active[w] | (some[w] & readers[at + w]);
@@ -122,7 +114,6 @@ fn put_common(active: &mut [u64], some: &[u64], readers: &[u64], at: usize)
 fn find_second(letters: usize, fresh: &[usize], readers: &[u64], held: &[u64], active: &mut [u64])
     requires { (letters ≤ 64) × (length fresh.now ≡ 64) × (length readers.now ≡ 644) × (length held.now ≡ 4) × (length active.old ≡ 4) }
     ensures second_to { SecondTo letters fresh.now readers.now held.now active.old active.new }
-    ensures active_len_unchanged { length active.new ≡ length active.old }
 {
     for c in 0..letters {
         if fresh[c] == 0 {

@@ -9,7 +9,6 @@ use family::take_more;
 pub fn mark(words: &mut [u64], p: usize, a: usize)
     requires { (p < length words.old) × (a < 64) }
     ensures by_index { (q c : ℕ) → has (get_or words.new q 0) c ≡ false → (has (get_or words.old q 0) c ≡ false) × (q ≡ p → c ≡ a → ⊥) }
-    ensures words_len_unchanged { length words.new ≡ length words.old }
 {
     words[p] = words[p] | (1u64 << a);
 }
@@ -28,8 +27,6 @@ pub fn keep_more(
     ensures joined { Joined ends.old at n more.now 0 ends.new }
     ensures x_value { has (get_or stirred.new p 0) a ≡ false → (x : ℕ) → x / 64 < n → holds more.now 0 x ≡ true → holds ends.old at x ≡ true }
     ensures by_index { (q c : ℕ) → has (get_or stirred.new q 0) c ≡ false → has (get_or stirred.old q 0) c ≡ false }
-    ensures ends_len_unchanged { length ends.new ≡ length ends.old }
-    ensures stirred_len_unchanged { length stirred.new ≡ length stirred.old }
 {
     if !take_more(ends, at, more, n) {
         return;

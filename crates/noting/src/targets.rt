@@ -34,10 +34,6 @@ pub fn note_targets(
         → Bare g n all.old → Bare g n new.old
         → Starts el g n size log.new all.new new.new news.new (counted size result) }
     ensures upper_bound { IfSome result (λ k. k ≤ size) }
-    ensures all_len_unchanged { length all.new ≡ length all.old }
-    ensures len_unchanged { length new.new ≡ length new.old }
-    ensures log_len_unchanged { length log.new ≡ length log.old }
-    ensures news_len_unchanged { length news.new ≡ length news.old }
 {
     if size < targetcount {
         return None;

@@ -42,9 +42,6 @@ pub fn take_heads(
         → Taking el g es birthdate log.old count now' → Adding el g rules.now.frame.n es now' added.old → NoGains g es now' gains.old
         → Step el g rules.now.frame.n es birthdate size now' (AbelardsTo g es (rules.now.sizes.control * rules.now.frame.letters)) gains.new log.new added.new (counted size result) }
     ensures upper_bound { IfSome result (λ k. k ≤ size) }
-    ensures added_len_unchanged { length added.new ≡ length added.old }
-    ensures gains_len_unchanged { length gains.new ≡ length gains.old }
-    ensures log_len_unchanged { length log.new ≡ length log.old }
 {
     let mut entries = count;
     for p in 0..rules.sizes.control as usize {
@@ -81,9 +78,6 @@ fn take_row(
         → Taking el g es birthdate log.old count now' → Adding el g rules.now.frame.n es now' added.old → Spared g es now' gains.old
         → Step el g rules.now.frame.n es birthdate size now' (AbelardsIn g es p rules.now.frame.letters) gains.new log.new added.new (counted size result) }
     ensures upper_bound { IfSome result (λ k. k ≤ size) }
-    ensures added_len_unchanged { length added.new ≡ length added.old }
-    ensures gains_len_unchanged { length gains.new ≡ length gains.old }
-    ensures log_len_unchanged { length log.new ≡ length log.old }
 {
     if !has_state(rules.sizes.abelard, p as u8) {
         return Some(count);
@@ -139,9 +133,6 @@ fn take_head(
         → Taking el g es birthdate log.old count now' → Adding el g rules.now.frame.n es now' added.old → Spared g es now' gains.old
         → Step el g rules.now.frame.n es birthdate size now' (AbelardAt g es p a) gains.new log.new added.new (counted size result) }
     ensures upper_bound { IfSome result (λ k. k ≤ size) }
-    ensures added_len_unchanged { length added.new ≡ length added.old }
-    ensures gains_len_unchanged { length gains.new ≡ length gains.old }
-    ensures log_len_unchanged { length log.new ≡ length log.old }
 {
     let first = rules.firsts[head];
     if rules.sizes.rulecount <= first {
@@ -173,7 +164,6 @@ fn unite_rules(rules: &Rules<'_>, ends: &[u64], first: usize, sets: &mut [u64])
     requires { (rules.now.sizes.rulecount * rules.now.frame.n ≤ length ends.now) × (first < rules.now.sizes.rulecount) × (16 ≤ length sets.old) }
     ensures all_of { Raising rules.now.frame.raising.now → (el : List ℕ) (states : ℕ) (f : ℕ → List ℕ) (chain : List ℕ) → Elements el states → ((x : ℕ) → x < 2 ^ length el → x / 64 < rules.now.frame.n)
         → Chain rules.now.sizes.rulecount rules.now.nexts.now first chain → EndsOf el rules.now.frame.n ends.now f chain → AllOf el rules.now.frame.n f chain sets.new }
-    ensures sets_len_unchanged { length sets.new ≡ length sets.old }
 {
     let n = rules.frame.n;
     let nexts = rules.nexts;

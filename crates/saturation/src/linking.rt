@@ -17,8 +17,6 @@ pub fn link(
     requires { (count * 6 ≤ length rules.now) × (count ≤ 256) × (letters ≤ 64) × (control ≤ 24) × (control * letters ≤ length firsts.old) × (256 ≤ length nexts.old) }
     ensures linked { Linked rules.now count letters control firsts.new nexts.new }
     ensures climbs { Climbs nexts.new count }
-    ensures firsts_len_unchanged { length firsts.new ≡ length firsts.old }
-    ensures nexts_len_unchanged { length nexts.new ≡ length nexts.old }
 {
     firsts.fill(count);
     for r in (0..count).rev() {
@@ -40,8 +38,6 @@ fn link_rule(
         × (256 ≤ length nexts.old) }
     ensures linked_from { LinkedFrom rules.now count letters control firsts.old nexts.old (r + 1)
         → LinkedFrom rules.now count letters control firsts.new nexts.new r }
-    ensures firsts_len_unchanged { length firsts.new ≡ length firsts.old }
-    ensures nexts_len_unchanged { length nexts.new ≡ length nexts.old }
 {
     let p = rules[r * Game::RULE_STRIDE];
     let a = rules[r * Game::RULE_STRIDE + 1];

@@ -39,7 +39,6 @@ pub fn take_round<
         → Rested el g old es i rules.now marks.old kept.old log.old kept.old.families.count before
         → Taken el g es i birthdate size rules.now marks.new kept.new log.new kept.new.families.count (counted size result) }
     ensures upper_bound { IfSome result (λ k. k ≤ size) }
-    ensures log_len_unchanged { length log.new ≡ length log.old }
 {
     let entries = note_round(rules, marks, kept, log, size, birthdate, before)?;
     close_heads(
@@ -85,7 +84,6 @@ fn note_round<
         → NotedIn el g old es i birthdate size rules.now marks.new kept.new log.new kept.new.families.count (counted size result) }
     ensures upper_bound { IfSome result (λ k. k ≤ size) }
     ensures unchanged { (marks.new.fresh ≡ marks.old.fresh) × (marks.new.alive ≡ marks.old.alive) × (marks.new.news ≡ marks.old.news) }
-    ensures log_len_unchanged { length log.new ≡ length log.old }
 {
     clear_at(&mut kept.stirred, 0, 32);
     renew_lines(

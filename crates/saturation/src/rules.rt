@@ -39,7 +39,6 @@ pub fn take_rules<
         → RulesHeld el g old es i birthdate now' 0 rules.now kept.old log.old before
         → RulesDone el g old es i birthdate size now' rules.now.sizes.rulecount rules.now kept.new log.new (counted size result) }
     ensures upper_bound { IfSome result (λ k. k ≤ size) }
-    ensures log_len_unchanged { length log.new ≡ length log.old }
 {
     let mut entries = before;
     for w in 0..4 {
@@ -83,7 +82,6 @@ fn take_word<
         → RulesHeld el g old es i birthdate now' from rules.now kept.old log.old before
         → RulesDone el g old es i birthdate size now' (from + 64) rules.now kept.new log.new (counted size result) }
     ensures upper_bound { IfSome result (λ k. k ≤ size) }
-    ensures log_len_unchanged { length log.new ≡ length log.old }
 {
     let mut entries = before;
     let mut rest = word;
@@ -121,7 +119,6 @@ fn take_rule<
         → RulesHeld el g old es i birthdate now' r rules.now kept.old log.old before
         → RulesDone el g old es i birthdate size now' (suc r) rules.now kept.new log.new (counted size result) }
     ensures upper_bound { IfSome result (λ k. k ≤ size) }
-    ensures log_len_unchanged { length log.new ≡ length log.old }
 {
     let n = rules.frame.n;
     let letters = rules.frame.letters;

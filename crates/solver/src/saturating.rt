@@ -262,9 +262,6 @@ fn settle(
         → Noted el g frame.now.n frame.now.letters frame.now.heads frame.now.states all.now log.old entries es m
         → table.old ≡ replicate (m * 3) 0
         → called result table.new log.new ≡ called (solved_with entries rounds) (table_words es (m - length es)) (replicate (length log.old) 0) }
-    ensures table_len_unchanged { length table.new ≡ length table.old }
-    ensures log_len_unchanged { length log.new ≡ length log.old }
-    ensures places_len_unchanged { length places.new ≡ length places.old }
 {
     write_entries(
         table,

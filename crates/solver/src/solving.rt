@@ -152,8 +152,6 @@ fn rounds_from(
 pub fn give_up(begun: &mut [u32], work: &mut [u32], refusal: Refusal) -> Result<Solved, Refusal>
     ensures work_after { called result begun.new work.new
         ≡ leaving (refused (number refusal.question) refusal.place) (length begun.old) (length work.old) }
-    ensures begun_len_unchanged { length begun.new ≡ length begun.old }
-    ensures work_len_unchanged { length work.new ≡ length work.old }
 {
     begun.fill(0);
     work.fill(0);

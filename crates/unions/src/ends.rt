@@ -42,11 +42,6 @@ pub fn more_of_rule(
         → Pool el g frame.now.n frame.now.heads frame.now.states es all.new keys.new rests.new result
         × Grew el frame.now.n more.new 0 (RuleEnds g es rule) (RuleBefore g old i rule) }
     ensures upper_bound { result ≤ length keys.old }
-    ensures more_len_unchanged { length more.new ≡ length more.old }
-    ensures all_len_unchanged { length all.new ≡ length all.old }
-    ensures keys_len_unchanged { length keys.new ≡ length keys.old }
-    ensures rests_len_unchanged { length rests.new ≡ length rests.old }
-    ensures hints_len_unchanged { length hints.new ≡ length hints.old }
 {
     let at = r * Game::RULE_STRIDE;
     more_ends(
@@ -95,11 +90,6 @@ pub fn more_ends(
         → Pool el g frame.now.n frame.now.heads frame.now.states es all.new keys.new rests.new result
         × Grew el frame.now.n more.new 0 (Ends g es q (word_of written b c)) (Before g old i q (word_of written b c)) }
     ensures upper_bound { result ≤ length keys.old }
-    ensures more_len_unchanged { length more.new ≡ length more.old }
-    ensures all_len_unchanged { length all.new ≡ length all.old }
-    ensures keys_len_unchanged { length keys.new ≡ length keys.old }
-    ensures rests_len_unchanged { length rests.new ≡ length rests.old }
-    ensures hints_len_unchanged { length hints.new ≡ length hints.old }
 {
     if written == 0 {
         put_at(more, 0, frame.numbers[q]);
@@ -140,11 +130,6 @@ fn add_runs(
         → Pool el g frame.now.n frame.now.heads frame.now.states es all.new keys.new rests.new result
         × Sum el g frame.now.n es c (Picked frame.now.n still alive all.old new.now (head * frame.now.n)) more.old more.new }
     ensures upper_bound { result ≤ length keys.old }
-    ensures more_len_unchanged { length more.new ≡ length more.old }
-    ensures all_len_unchanged { length all.new ≡ length all.old }
-    ensures keys_len_unchanged { length keys.new ≡ length keys.old }
-    ensures rests_len_unchanged { length rests.new ≡ length rests.old }
-    ensures hints_len_unchanged { length hints.new ≡ length hints.old }
 {
     let at = head * frame.n;
     let mut lines = count;
@@ -196,11 +181,6 @@ fn add_word(
         → Pool el g frame.now.n frame.now.heads frame.now.states es all.new keys.new rests.new result
         × Sum el g frame.now.n es c (OfWord word from) more.old more.new }
     ensures upper_bound { result ≤ length keys.old }
-    ensures more_len_unchanged { length more.new ≡ length more.old }
-    ensures all_len_unchanged { length all.new ≡ length all.old }
-    ensures keys_len_unchanged { length keys.new ≡ length keys.old }
-    ensures rests_len_unchanged { length rests.new ≡ length rests.old }
-    ensures hints_len_unchanged { length hints.new ≡ length hints.old }
 {
     let mut rest = word;
     let mut lines = count;

@@ -38,10 +38,6 @@ pub fn family_of(
     ensures finds { Finds frame.now.letters frame.now.heads frame.now.n x c frame.now.states frame.now.raising.now all.old keys.old rests.old count
         all.new keys.new rests.new result.family result.count }
     ensures family_bound { (result.family < frame.now.heads + result.count) × (result.count ≤ length keys.old) }
-    ensures all_len_unchanged { length all.new ≡ length all.old }
-    ensures keys_len_unchanged { length keys.new ≡ length keys.old }
-    ensures rests_len_unchanged { length rests.new ≡ length rests.old }
-    ensures hints_len_unchanged { length hints.new ≡ length hints.old }
 {
     if (x & (x - 1)) == 0 {
         let family = head_of(&frame.states, lowest(x), frame.letters, c);
@@ -134,10 +130,6 @@ fn make_lines(
     ensures finds { Finds frame.now.letters frame.now.heads frame.now.n x c frame.now.states frame.now.raising.now all.old keys.old rests.old count
         all.new keys.new rests.new result.family result.count }
     ensures family_bound { (result.family < frame.now.heads + result.count) × (result.count ≤ length keys.old) }
-    ensures all_len_unchanged { length all.new ≡ length all.old }
-    ensures keys_len_unchanged { length keys.new ≡ length keys.old }
-    ensures rests_len_unchanged { length rests.new ≡ length rests.old }
-    ensures hints_len_unchanged { length hints.new ≡ length hints.old }
 {
     let top = highest(x);
     let mut rest = x % (1usize << top);
@@ -181,10 +173,6 @@ fn line_for(
     ensures finding { Finding frame.now.letters frame.now.heads frame.now.n y s c frame.now.states frame.now.raising.now all.old keys.old rests.old before.family before.count
         all.new keys.new rests.new result.family result.count }
     ensures family_bound { (result.family < frame.now.heads + result.count) × (result.count ≤ before.count + 1) }
-    ensures all_len_unchanged { length all.new ≡ length all.old }
-    ensures keys_len_unchanged { length keys.new ≡ length keys.old }
-    ensures rests_len_unchanged { length rests.new ≡ length rests.old }
-    ensures hints_len_unchanged { length hints.new ≡ length hints.old }
 {
     let line = hint_at(hints, frame.n, y, c);
     let count = before.count;
@@ -232,8 +220,6 @@ pub fn renew_lines(
         → Renewing el g frame.now.n frame.now.heads frame.now.states old es fresh.now keys.now rests.now count
         → Passing el g frame.now.n frame.now.heads keys.now old es all.old new.old 0 count
         → Passing el g frame.now.n frame.now.heads keys.now old es all.new new.new count count }
-    ensures all_len_unchanged { length all.new ≡ length all.old }
-    ensures len_unchanged { length new.new ≡ length new.old }
 {
     for k in 0..count {
         renew_line(k, frame, all, new, keys, rests, fresh);
@@ -256,8 +242,6 @@ fn renew_line(
         → Renewing el g frame.now.n frame.now.heads frame.now.states old es fresh.now keys.now rests.now count
         → Passing el g frame.now.n frame.now.heads keys.now old es all.old new.old k count
         → Passing el g frame.now.n frame.now.heads keys.now old es all.new new.new (suc k) count }
-    ensures all_len_unchanged { length all.new ≡ length all.old }
-    ensures len_unchanged { length new.new ≡ length new.old }
 {
     let key = keys[k] as usize;
     let x = key % 1024;

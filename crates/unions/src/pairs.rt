@@ -19,7 +19,6 @@ pub fn unite_pair(
     requires { (16 ≤ length unions.old) × (one + n ≤ length all.now) × (other + n ≤ length all.now) × (512 ≤ length raising.now) × (n ≤ 16)
         × (one ≤ 1048576) × (other ≤ 1048576) }
     ensures unites_into { Raising raising.now → UnitesInto n all.now one all.now other unions.old unions.new }
-    ensures unions_len_unchanged { length unions.new ≡ length unions.old }
 {
     if sets_at(all, one, n) < sets_at(all, other, n) {
         unite_into(unions, all, other, all, one, raising, n);

@@ -15,7 +15,6 @@ pub returns-then-n-eq1 : goal.returns-then-n-eq1
 returns-then-n-eq1 c =
     record {
       cleared = cleared-one _ _ _ c.if-n-eq1.true c.requires;
-      words_len_unchanged = search rules;
     }
 
 pub offset_bounds-words-at-then-n-eq2 : goal.offset_bounds-words-at-then-n-eq2
@@ -37,7 +36,6 @@ pub returns-then-n-eq2 : goal.returns-then-n-eq2
 returns-then-n-eq2 c =
     record {
       cleared = cleared-two _ _ _ c.if-n-eq2.true c.requires;
-      words_len_unchanged = search rules;
     }
 
 pub offset_bounds-words-at-then-n-eq4 : goal.offset_bounds-words-at-then-n-eq4
@@ -77,7 +75,6 @@ pub returns-then-n-eq4 : goal.returns-then-n-eq4
 returns-then-n-eq4 c =
     record {
       cleared = cleared-four _ _ _ c.if-n-eq4.true c.requires;
-      words_len_unchanged = search rules;
     }
 
 pub returns : goal.returns
@@ -85,5 +82,4 @@ returns c =
     let part = c.fill.ensures.after (λ y h. h) in
     record {
       cleared = cleared-all _ _ _ _ _ (walk-part _ _ _ _ none _ c.requires (omega arith) (c.fill.ensures.len ∙ search rules) (λ j l. rw part (search rules))) (omega arith);
-      words_len_unchanged = search rules;
     }

@@ -21,7 +21,6 @@ pub returns-then-n-eq1 : goal.returns-then-n-eq1
 returns-then-n-eq1 c =
     record {
       copied = copied-one _ _ _ _ _ c.if-n-eq1.true c.requires.0;
-      words_len_unchanged = search rules;
     }
 
 pub offset_bounds-others-at-then-n-eq2 : goal.offset_bounds-others-at-then-n-eq2
@@ -58,7 +57,6 @@ pub returns-then-n-eq2 : goal.returns-then-n-eq2
 returns-then-n-eq2 c =
     record {
       copied = copied-two _ _ _ _ _ c.if-n-eq2.true c.requires.0;
-      words_len_unchanged = search rules;
     }
 
 pub offset_bounds-others-at-then-n-eq4 : goal.offset_bounds-others-at-then-n-eq4
@@ -131,12 +129,10 @@ pub returns-then-n-eq4 : goal.returns-then-n-eq4
 returns-then-n-eq4 c =
     record {
       copied = copied-four _ _ _ _ _ c.if-n-eq4.true c.requires.0;
-      words_len_unchanged = search rules;
     }
 
 pub returns : goal.returns
 returns c =
     record {
       copied = copied_all _ _ _ _ _ _ _ (walk-part _ _ _ _ (copied _ _) _ c.requires.0 (omega arith) (search rules) (λ j l. rw c.copy_from_slice.ensures.after (search (rules, places)))) (omega arith);
-      words_len_unchanged = search rules;
     }

@@ -1,4 +1,3 @@
-use borrow.Author.Rules.{rules}
 use native.Mathlib.Omega.{arith}
 use mathlib.Core.Path.{refl}
 use Rattle.family.proofs.Areas.{walk-starts, walk_here, walk-on, joined-all, joined-one}
@@ -26,7 +25,6 @@ pub returns-then-n-eq1 : goal.returns-then-n-eq1
 returns-then-n-eq1 c =
     record {
       joined = joined-one _ _ _ _ _ c.if-n-eq1.true c.requires.0;
-      words_len_unchanged = search rules;
     }
 
 pub loop-i-init : goal.loop-i-init
@@ -69,5 +67,4 @@ pub returns : goal.returns
 returns c =
     record {
       joined = joined-all _ _ _ _ _ _ _ c.loop-i.invariant c.loop-i-test.false;
-      words_len_unchanged = c.loop-i.invariant.long;
     }

@@ -1,4 +1,3 @@
-use lib.ListN.{length-set}
 use Rattle.family.proofs.Areas.{put_in}
 use Rattle.family.proofs.area.put_at.Goals as goal
 
@@ -6,5 +5,4 @@ pub returns : goal.returns
 returns c =
     record {
       put = put_in _ _ _ c.requires;
-      words_len_unchanged = simp length-set;
     }

@@ -52,5 +52,4 @@ pub returns : goal.returns
 returns c =
     record {
       without = without_all _ _ _ _ _ _ _ c.loop-i.invariant c.loop-i-test.false;
-      words_len_unchanged = c.loop-i.invariant.long;
     }

@@ -1,4 +1,3 @@
-use borrow.Author.Rules.{rules}
 use native.Mathlib.Omega.{arith}
 use mathlib.Core.Path.{refl}
 use Rattle.family.proofs.Areas.{walk-starts, walk_here, walk-on, taken-all, taken-one}
@@ -38,8 +37,6 @@ pub returns-then-n-eq1 : goal.returns-then-n-eq1
 returns-then-n-eq1 c =
     record {
       taken_in = taken-one _ _ _ _ _ c.if-n-eq1.true c.requires.0 c.requires.1;
-      all_len_unchanged = search rules;
-      len_unchanged = search rules;
     }
 
 pub loop-t-init : goal.loop-t-init
@@ -109,6 +106,4 @@ pub returns : goal.returns
 returns c =
     record {
       taken_in = taken-all _ _ _ _ _ _ _ _ c.loop-t.invariant.0 c.loop-t.invariant.1 c.loop-t-test.false;
-      all_len_unchanged = c.loop-t.invariant.0.long;
-      len_unchanged = c.loop-t.invariant.1.long;
     }

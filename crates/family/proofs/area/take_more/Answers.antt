@@ -1,4 +1,3 @@
-use borrow.Author.Rules.{rules}
 use native.Mathlib.Omega.{arith}
 use mathlib.Core.Path.{refl}
 use Rattle.family.proofs.Areas.{walk-starts, walk_here, walk-on, missing-on, more-all, more-one, none-missing, none-missing-one, is_zero}
@@ -33,7 +32,6 @@ returns-then-n-eq1 c =
     record {
       joined = more-one _ _ _ _ c.if-n-eq1.true c.requires.0;
       x_value = λ e. none-missing-one _ _ _ _ c.if-n-eq1.true (is_zero _ e);
-      all_len_unchanged = search rules;
     }
 
 pub loop-t-init : goal.loop-t-init
@@ -89,5 +87,4 @@ returns c =
     record {
       joined = more-all _ _ _ _ _ _ c.loop-t.invariant.0 c.loop-t-test.false;
       x_value = λ e. none-missing _ _ _ _ _ _ c.loop-t.invariant.1 c.loop-t-test.false (is_zero _ e);
-      all_len_unchanged = c.loop-t.invariant.0.long;
     }

@@ -33,7 +33,6 @@ pub returns-then-n-eq1 : goal.returns-then-n-eq1
 returns-then-n-eq1 c =
     record {
       unites_into = λ r. rw c.if-n-eq1.true (one_word _ _ _ _ _ (omega (arith, c.requires.0)) _ (c.unite_by.ensures r));
-      out_len_unchanged = simp length-set;
     }
 
 pub loop-i-init : goal.loop-i-init
@@ -54,7 +53,7 @@ unite_with-requires c = (omega (arith, c.requires.0, c.loop-i.invariant.0), c.re
 pub loop-i-preserved : goal.loop-i-preserved
 loop-i-preserved c =
     elim c.if-word-ne0.branch [
-      | then-word-ne0 w ↦ rw w.out-is (w.unite_with.ensures.out_len_unchanged ∙ c.loop-i.invariant.0, omega (arith, c.loop-i-test.true), λ r. adding-more _ _ _ _ _ _ _ _ (c.loop-i.invariant.2 r) _ (w.unite_with.ensures.row r))
+      | then-word-ne0 w ↦ rw w.out-is (w.unite_with.auto.out ∙ c.loop-i.invariant.0, omega (arith, c.loop-i-test.true), λ r. adding-more _ _ _ _ _ _ _ _ (c.loop-i.invariant.2 r) _ (w.unite_with.ensures.row r))
       | else-word-ne0 w ↦ rw w.out-is (c.loop-i.invariant.0, omega (arith, c.loop-i-test.true), λ r. adding-skips _ _ _ _ _ _ _ _ (c.loop-i.invariant.2 r) w.if-word-ne0.false)
     ]
 
@@ -65,5 +64,4 @@ pub returns : goal.returns
 returns c =
     record {
       unites_into = λ r. adding-ends _ _ _ _ _ _ _ _ (c.loop-i.invariant.2 r) c.loop-i.invariant.1 c.loop-i-test.false;
-      out_len_unchanged = c.loop-i.invariant.0;
     }

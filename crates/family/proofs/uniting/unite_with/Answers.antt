@@ -50,5 +50,4 @@ pub returns : goal.returns
 returns c =
     record {
       row = λ r. placed-ends _ _ _ _ _ _ c.requires.4 c.requires.2 _ _ (c.loop-p.invariant.2 r) c.loop-p-test.false;
-      out_len_unchanged = c.loop-p.invariant.0;
     }

@@ -34,7 +34,7 @@ pub loop-rest-smaller : goal.loop-rest-smaller
 loop-rest-smaller c = cleared-falls _ (omega (arith, c.loop-rest-test.true))
 
 pub loop-rest-preserved : goal.loop-rest-preserved
-loop-rest-preserved c = thinning-on _ _ c.loop-rest.invariant (omega (arith, c.loop-rest-test.true)) c.lowest_set-a.ensures c.if-letters-a.false c.clear_at.ensures.cleared c.clear_at.ensures.words_len_unchanged
+loop-rest-preserved c = thinning-on _ _ c.loop-rest.invariant (omega (arith, c.loop-rest-test.true)) c.lowest_set-a.ensures c.if-letters-a.false c.clear_at.ensures.cleared c.clear_at.auto.words
 
 pub shape_of-new : goal.shape_of-new
 shape_of-new c = c.loop-rest.invariant.thinned.long

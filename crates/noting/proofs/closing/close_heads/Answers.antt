@@ -16,11 +16,4 @@ returns c =
     record {
       by_index = all_closed c.close_rows.ensures c.clear_rows.ensures _ _ c.requires.0;
       elsewhere = (beyond-more (c.args.control * c.args.letters) _ _ _ _ (omega (arith, c.requires.3, mul-le-mul_right c.args.letters c.requires.0)) c.close_rows.ensures.aside, c.close_rows.ensures.masks.few c.requires.6.few);
-      all_len_unchanged = c.close_rows.ensures.areas;
-      len_unchanged = c.clear_rows.ensures.long ∙ c.close_rows.ensures.newer;
-      added_len_unchanged = c.close_rows.ensures.adds;
-      fresh_len_unchanged = c.close_rows.ensures.masks.news ∙ c.fill.ensures.len;
-      alive_len_unchanged = c.close_rows.ensures.masks.lives;
-      news_len_unchanged = c.clear_rows.ensures.tidings ∙ c.close_rows.ensures.tidings;
-      gains_len_unchanged = c.close_rows.ensures.gainers;
     }

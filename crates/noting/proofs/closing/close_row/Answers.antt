@@ -76,7 +76,7 @@ pub loop-rest-smaller : goal.loop-rest-smaller
 loop-rest-smaller c = cleared-falls _ (omega (arith, c.loop-rest-test.true))
 
 pub loop-rest-preserved : goal.loop-rest-preserved
-loop-rest-preserved c = row_on c.loop-rest.invariant _ (omega (arith, c.loop-rest-test.true)) c.lowest_set-a.ensures _ _ _ c.if-letters-a.false (omega (arith, c.if-letters-a.false, c.requires.6, c.loop-rest.invariant.masks.news)) (omega (arith, c.if-letters-a.false, c.requires.7, c.loop-rest.invariant.masks.lives)) c.requires.2 c.join_at.ensures.joined c.copy_at.ensures.copied c.clear_at.ensures.cleared c.join_at.ensures.words_len_unchanged c.copy_at.ensures.words_len_unchanged c.clear_at.ensures.words_len_unchanged
+loop-rest-preserved c = row_on c.loop-rest.invariant _ (omega (arith, c.loop-rest-test.true)) c.lowest_set-a.ensures _ _ _ c.if-letters-a.false (omega (arith, c.if-letters-a.false, c.requires.6, c.loop-rest.invariant.masks.news)) (omega (arith, c.if-letters-a.false, c.requires.7, c.loop-rest.invariant.masks.lives)) c.requires.2 c.join_at.ensures.joined c.copy_at.ensures.copied c.clear_at.ensures.cleared c.join_at.auto.words c.copy_at.auto.words c.clear_at.auto.words
 
 pub shape_of-all : goal.shape_of-all
 shape_of-all c = c.loop-rest.invariant.areas

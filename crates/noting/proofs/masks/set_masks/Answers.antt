@@ -37,6 +37,4 @@ returns c =
     record {
       by_index = marking-ends _ _ _ _ _ _ _ _ _ _ _ c.loop-c-test.false c.loop-c.invariant;
       by_index_2 = c.loop-c.invariant.few;
-      fresh_len_unchanged = c.loop-c.invariant.news;
-      alive_len_unchanged = c.loop-c.invariant.lives;
     }

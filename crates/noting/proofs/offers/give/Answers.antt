@@ -12,9 +12,6 @@ returns-then-entries-count c =
     record {
       by_index = (λ el g es now b lay good asc ranged t ef lp la eh hold adding offered none. gave-same good asc ranged t none ((rw c.in_ok-entries.was at c.offer.ensures.by_index) el g es now b _ _ lay good asc ranged t ef lp la eh hold adding offered) c.if-entries-count.true);
       upper_bound = rw c.in_ok-entries.was at c.offer.ensures.upper_bound;
-      added_len_unchanged = c.offer.ensures.added_len_unchanged;
-      gains_len_unchanged = refl;
-      log_len_unchanged = c.offer.ensures.log_len_unchanged;
     }
 
 pub returns : goal.returns
@@ -22,7 +19,4 @@ returns c =
     record {
       by_index = (λ el g es now b lay good asc ranged t ef lp la eh hold adding offered none. gave-marked good asc ranged t none ((rw c.in_ok-entries.was at c.offer.ensures.by_index) el g es now b _ _ lay good asc ranged t ef lp la eh hold adding offered) c.mark.ensures.by_index);
       upper_bound = rw c.in_ok-entries.was at c.offer.ensures.upper_bound;
-      added_len_unchanged = c.offer.ensures.added_len_unchanged;
-      gains_len_unchanged = c.mark.ensures.words_len_unchanged;
-      log_len_unchanged = c.offer.ensures.log_len_unchanged;
     }

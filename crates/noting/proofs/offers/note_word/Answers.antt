@@ -19,7 +19,6 @@ returns-then-size-entries c =
     record {
       by_index = (λ el g es now b p a ok good asc ranged t ef lp la offers. inl (refl, words-full _ _ _ _ _ _ _ _ _ _ _ c.loop-rest.invariant (omega (arith, c.loop-rest-test.true)) c.lowest_set-s.ensures c.if-size-entries.true el g es now b p a ok good asc ranged t ef lp la offers));
       upper_bound = tt;
-      log_len_unchanged = c.loop-rest.invariant.same;
     }
 
 pub overflow_mul-entries : goal.overflow_mul-entries
@@ -44,7 +43,7 @@ pub loop-rest-smaller : goal.loop-rest-smaller
 loop-rest-smaller c = cleared-falls _ (omega (arith, c.loop-rest-test.true))
 
 pub loop-rest-preserved : goal.loop-rest-preserved
-loop-rest-preserved c = words-on _ _ _ _ _ _ _ _ _ _ _ c.loop-rest.invariant (omega (arith, c.loop-rest-test.true)) c.lowest_set-s.ensures _ (omega (arith, c.if-size-entries.false)) c.requires.0 c.put_entry.ensures.table_after c.put_entry.ensures.table_len_unchanged
+loop-rest-preserved c = words-on _ _ _ _ _ _ _ _ _ _ _ c.loop-rest.invariant (omega (arith, c.loop-rest-test.true)) c.lowest_set-s.ensures _ (omega (arith, c.if-size-entries.false)) c.requires.0 c.put_entry.ensures.table_after c.put_entry.auto.table
 
 pub shape_of-log : goal.shape_of-log
 shape_of-log c = c.loop-rest.invariant.same
@@ -54,5 +53,4 @@ returns c =
     record {
       by_index = words-end _ _ _ _ _ _ _ _ _ _ c.loop-rest-test.false c.loop-rest.invariant;
       upper_bound = omega (arith, c.loop-rest.invariant.room);
-      log_len_unchanged = c.loop-rest.invariant.same;
     }

@@ -82,7 +82,7 @@ bounds-added-head-then-word-ne0-2 c = omega (arith, c.requires.8, c.loop-j-test.
 pub loop-j-preserved : goal.loop-j-preserved
 loop-j-preserved c =
     elim c.if-word-ne0.branch [
-      | then-word-ne0+in_ok-entries w ↦ rw (w.added-is, w.log-is, w.entries-is) (giving-on _ _ _ _ _ _ _ _ _ _ _ _ _ _ _ _ c.loop-j.invariant c.loop-j-test.true (omega (arith, c.requires.8, c.loop-j.invariant.areas)) c.unseen-word.ensures _ _ (rw w.in_ok-entries.was at w.note_word.ensures.by_index) _ (rw w.in_ok-entries.was at w.note_word.ensures.upper_bound) w.note_word.ensures.log_len_unchanged refl (simp length-set))
+      | then-word-ne0+in_ok-entries w ↦ rw (w.added-is, w.log-is, w.entries-is) (giving-on _ _ _ _ _ _ _ _ _ _ _ _ _ _ _ _ c.loop-j.invariant c.loop-j-test.true (omega (arith, c.requires.8, c.loop-j.invariant.areas)) c.unseen-word.ensures _ _ (rw w.in_ok-entries.was at w.note_word.ensures.by_index) _ (rw w.in_ok-entries.was at w.note_word.ensures.upper_bound) w.note_word.auto.log refl (simp length-set))
       | else-word-ne0 w ↦ rw (w.added-is, w.log-is, w.entries-is) (giving-none _ _ _ _ _ _ _ _ _ _ _ _ _ _ _ _ c.loop-j.invariant c.loop-j-test.true (omega (arith, c.requires.8, c.loop-j.invariant.areas)) c.unseen-word.ensures w.if-word-ne0.false)
     ]
 
@@ -97,6 +97,4 @@ returns c =
     record {
       by_index = giving-ends _ _ _ _ _ _ _ _ _ _ _ _ _ _ _ c.loop-j-test.false c.loop-j.invariant;
       upper_bound = omega (arith, c.loop-j.invariant.room);
-      added_len_unchanged = c.loop-j.invariant.areas;
-      log_len_unchanged = c.loop-j.invariant.same;
     }

@@ -19,7 +19,7 @@ pub find_started-requires : goal.find_started-requires
 find_started-requires c = (omega (arith, c.requires.0, c.loop-q-test.true), c.requires.2, c.loop-q.invariant.2 ∙ c.requires.3)
 
 pub loop-q-preserved : goal.loop-q-preserved
-loop-q-preserved c = (first_on _ _ _ _ _ _ c.loop-q.invariant.0 c.find_started.ensures.started, omega (arith, c.loop-q-test.true), c.find_started.ensures.active_len_unchanged ∙ c.loop-q.invariant.2)
+loop-q-preserved c = (first_on _ _ _ _ _ _ c.loop-q.invariant.0 c.find_started.ensures.started, omega (arith, c.loop-q-test.true), c.find_started.auto.active ∙ c.loop-q.invariant.2)
 
 pub shape_of-active : goal.shape_of-active
 shape_of-active c = c.loop-q.invariant.2
@@ -28,5 +28,4 @@ pub returns : goal.returns
 returns c =
     record {
       first_to = first-all _ _ _ _ _ _ c.loop-q.invariant.0 c.loop-q-test.false;
-      active_len_unchanged = c.loop-q.invariant.2;
     }

@@ -25,7 +25,7 @@ pub put_common-requires : goal.put_common-requires
 put_common-requires c = (omega (arith, c.requires.0, c.loop-c-test.true), c.requires.2, c.requires.3, c.loop-c.invariant.2 ∙ c.requires.4)
 
 pub loop-c-preserved : goal.loop-c-preserved
-loop-c-preserved c = (second-on _ _ _ _ _ _ c.loop-c.invariant.0 _ c.put_common.ensures.met, omega (arith, c.loop-c-test.true), c.put_common.ensures.active_len_unchanged ∙ c.loop-c.invariant.2)
+loop-c-preserved c = (second-on _ _ _ _ _ _ c.loop-c.invariant.0 _ c.put_common.ensures.met, omega (arith, c.loop-c-test.true), c.put_common.auto.active ∙ c.loop-c.invariant.2)
 
 pub shape_of-active : goal.shape_of-active
 shape_of-active c = c.loop-c.invariant.2
@@ -34,5 +34,4 @@ pub returns : goal.returns
 returns c =
     record {
       second_to = second-all _ _ _ _ _ _ _ c.loop-c.invariant.0 c.loop-c-test.false;
-      active_len_unchanged = c.loop-c.invariant.2;
     }

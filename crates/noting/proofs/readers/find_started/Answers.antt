@@ -1,4 +1,3 @@
-use mathlib.Core.Path.{refl}
 use Rattle.noting.proofs.ActiveRules.{started_none, started-some}
 use Rattle.noting.proofs.readers.find_started.Goals as goal
 
@@ -7,12 +6,10 @@ pub returns-then-word-eq0 : goal.returns-then-word-eq0
 returns-then-word-eq0 c =
     record {
       started = started_none _ _ _ _ c.if-word-eq0.true;
-      active_len_unchanged = refl;
     }
 
 pub returns : goal.returns
 returns c =
     record {
       started = started-some _ _ _ _ _ _ c.sum_above.ensures.summed c.put_common.ensures.met;
-      active_len_unchanged = c.put_common.ensures.active_len_unchanged;
     }

@@ -42,5 +42,4 @@ pub returns : goal.returns
 returns c =
     record {
       met = meeting-ends _ _ _ _ _ _ c.loop-w.invariant c.loop-w-test.false;
-      active_len_unchanged = c.loop-w.invariant.long;
     }

@@ -25,7 +25,7 @@ pub loop-rest-smaller : goal.loop-rest-smaller
 loop-rest-smaller c = cleared-falls _ (omega (arith, c.loop-rest-test.true))
 
 pub loop-rest-preserved : goal.loop-rest-preserved
-loop-rest-preserved c = summing_on _ _ _ _ _ _ _ c.loop-rest.invariant (omega (arith, c.loop-rest-test.true)) c.lowest_set-b.ensures c.join_at.ensures.joined c.join_at.ensures.words_len_unchanged
+loop-rest-preserved c = summing_on _ _ _ _ _ _ _ c.loop-rest.invariant (omega (arith, c.loop-rest-test.true)) c.lowest_set-b.ensures c.join_at.ensures.joined c.join_at.auto.words
 
 pub shape_of-sum : goal.shape_of-sum
 shape_of-sum c = c.loop-rest.invariant.long
@@ -34,5 +34,4 @@ pub returns : goal.returns
 returns c =
     record {
       summed = summing-ends _ _ _ _ _ c.loop-rest.invariant c.loop-rest-test.false;
-      sum_len_unchanged = c.loop-rest.invariant.long;
     }

@@ -7,8 +7,6 @@ returns-then-not-take_more c =
       joined = c.take_more.ensures.joined;
       x_value = (λ off. c.take_more.ensures.x_value (c.if-not-take_more.true));
       by_index = (λ q c' h. h);
-      ends_len_unchanged = c.take_more.ensures.all_len_unchanged;
-      stirred_len_unchanged = refl;
     }
 
 pub returns : goal.returns
@@ -17,6 +15,4 @@ returns c =
       joined = c.take_more.ensures.joined;
       x_value = (λ off. absurd ((c.mark.ensures.by_index _ _ off).1 refl refl));
       by_index = (λ q c' h. (c.mark.ensures.by_index q c' h).0);
-      ends_len_unchanged = c.take_more.ensures.all_len_unchanged;
-      stirred_len_unchanged = c.mark.ensures.words_len_unchanged;
     }

@@ -1,4 +1,3 @@
-use borrow.Author.Rules.{rules}
 use Rattle.noting.proofs.Signing.{mark-clear}
 use Rattle.noting.proofs.signs.mark.Goals as goal
 
@@ -6,5 +5,4 @@ pub returns : goal.returns
 returns c =
     record {
       by_index = mark-clear c.args.words.now c.args.p c.args.a c.requires.0 c.requires.1;
-      words_len_unchanged = search rules;
     }

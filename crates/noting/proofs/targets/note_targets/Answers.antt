@@ -1,5 +1,5 @@
 use native.Mathlib.Omega.{arith}
-use mathlib.Core.Path.{refl, ◌∙◌}
+use mathlib.Core.Path.{◌∙◌}
 use Rattle.unions.specs.PoolLaws.{next_row}
 use Rattle.unions.specs.PlaceLaws.{place-small}
 use Rattle.noting.proofs.Starting.{target, starting-first, starting-begun, starting-ends, starting-beyond, head-found, set_found}
@@ -10,10 +10,6 @@ returns-then-size-targetcount c =
     record {
       starts = (λ g el count states sizes rules held good elements lay eg eh ec bare bare'. starting-beyond _ _ _ _ _ _ _ _ c.args.log.now c.args.news.now _ _ _ _ _ c.if-size-targetcount.true g el (target g el count states sizes rules _ _ _ _ _ _ _ _ held good elements lay eg eh ec bare bare'));
       upper_bound = tt;
-      all_len_unchanged = refl;
-      len_unchanged = refl;
-      log_len_unchanged = refl;
-      news_len_unchanged = refl;
     }
 
 pub loop-t-init : goal.loop-t-init
@@ -57,10 +53,6 @@ returns-then-heads-head c =
     record {
       starts = (λ g el count states sizes rules held good elements lay eg eh ec bare bare'. absurd (head-found _ _ _ _ _ _ _ _ c.args.log.now c.args.news.now _ c.loop-t-test.true g el (target g el count states sizes rules _ _ _ _ _ _ _ _ held good elements lay eg eh ec bare bare') _ c.head_at-head.ensures.value c.if-heads-head.true));
       upper_bound = tt;
-      all_len_unchanged = c.loop-t.invariant.areas;
-      len_unchanged = c.loop-t.invariant.newer;
-      log_len_unchanged = c.loop-t.invariant.same;
-      news_len_unchanged = c.loop-t.invariant.tidings;
     }
 
 pub overflow_add-at-in-loop-t : goal.overflow_add-at-in-loop-t
@@ -92,10 +84,6 @@ returns-then-n-x c =
     record {
       starts = (λ g el count states sizes rules held good elements lay eg eh ec bare bare'. absurd (set_found _ _ _ _ _ _ _ _ c.args.log.now c.args.news.now _ c.loop-t-test.true g el (target g el count states sizes rules _ _ _ _ _ _ _ _ held good elements lay eg eh ec bare bare') _ c.element_set-x.ensures.upper_bound_2 c.if-n-x.true));
       upper_bound = tt;
-      all_len_unchanged = c.loop-t.invariant.areas;
-      len_unchanged = c.loop-t.invariant.newer;
-      log_len_unchanged = c.loop-t.invariant.same;
-      news_len_unchanged = c.loop-t.invariant.tidings;
     }
 
 pub overflow_mul-head : goal.overflow_mul-head
@@ -165,7 +153,7 @@ pub put_entry-requires : goal.put_entry-requires
 put_entry-requires c = omega (arith, c.loop-t-test.true, c.if-size-targetcount.false, c.requires.0, c.loop-t.invariant.same)
 
 pub loop-t-preserved : goal.loop-t-preserved
-loop-t-preserved c = record { below = omega (arith, c.loop-t-test.true); areas = c.put_at.ensures.words_len_unchanged ∙ c.loop-t.invariant.areas; newer = c.put_at-in-loop-t.ensures.words_len_unchanged ∙ c.loop-t.invariant.newer; same = c.put_entry.ensures.table_len_unchanged ∙ c.loop-t.invariant.same; tidings = c.mark.ensures.words_len_unchanged ∙ c.loop-t.invariant.tidings; begun = λ g el k. starting-begun _ _ _ _ _ _ _ _ c.args.log.now c.args.news.now _ c.loop-t-test.true g el k _ c.element_set-x.ensures.upper_bound_2 _ c.head_at-head.ensures.value _ _ _ _ _ _ _ _ (omega (arith, c.loop-t-test.true, c.if-size-targetcount.false, c.requires.0, c.loop-t.invariant.same)) c.put_at.ensures.put c.put_at-in-loop-t.ensures.put c.put_entry.ensures.table_after c.mark.ensures.by_index (c.loop-t.invariant.begun g el k) }
+loop-t-preserved c = record { below = omega (arith, c.loop-t-test.true); areas = c.put_at.auto.words ∙ c.loop-t.invariant.areas; newer = c.put_at-in-loop-t.auto.words ∙ c.loop-t.invariant.newer; same = c.put_entry.auto.table ∙ c.loop-t.invariant.same; tidings = c.mark.auto.words ∙ c.loop-t.invariant.tidings; begun = λ g el k. starting-begun _ _ _ _ _ _ _ _ c.args.log.now c.args.news.now _ c.loop-t-test.true g el k _ c.element_set-x.ensures.upper_bound_2 _ c.head_at-head.ensures.value _ _ _ _ _ _ _ _ (omega (arith, c.loop-t-test.true, c.if-size-targetcount.false, c.requires.0, c.loop-t.invariant.same)) c.put_at.ensures.put c.put_at-in-loop-t.ensures.put c.put_entry.ensures.table_after c.mark.ensures.by_index (c.loop-t.invariant.begun g el k) }
 
 pub shape_of-all : goal.shape_of-all
 shape_of-all c = c.loop-t.invariant.areas
@@ -184,8 +172,4 @@ returns c =
     record {
       starts = (λ g el count states sizes rules held good elements lay eg eh ec bare bare'. starting-ends _ _ _ _ _ _ _ _ _ _ _ _ _ _ _ c.loop-t-test.false c.loop-t.invariant _ c.if-size-targetcount.false g el (target g el count states sizes rules _ _ _ _ _ _ _ _ held good elements lay eg eh ec bare bare'));
       upper_bound = omega (arith, c.if-size-targetcount.false);
-      all_len_unchanged = c.loop-t.invariant.areas;
-      len_unchanged = c.loop-t.invariant.newer;
-      log_len_unchanged = c.loop-t.invariant.same;
-      news_len_unchanged = c.loop-t.invariant.tidings;
     }

@@ -1,5 +1,4 @@
 use native.Mathlib.Omega.{arith}
-use mathlib.Core.Path.{refl}
 use Rattle.saturation.proofs.AbelardHeads.{not_none, step-offer}
 use Rattle.saturation.proofs.heads.take_head.Goals as goal
 
@@ -8,9 +7,6 @@ returns-then-rules-first c =
     record {
       by_index = (λ el g old es now i rules abelard control letters stirred k lp la eh on taking adding spared. absurd (not_none el g _ old es i abelard control letters _ rules _ stirred _ _ _ _ k _ _ lp la _ eh on c.if-rules-first.true));
       upper_bound = omega (arith, c.requires.1);
-      added_len_unchanged = refl;
-      gains_len_unchanged = refl;
-      log_len_unchanged = refl;
     }
 
 pub returns : goal.returns
@@ -18,7 +14,4 @@ returns c =
     record {
       by_index = (λ el g old es now i rules abelard control letters stirred k lp la eh on taking adding spared. step-offer el g _ old es i abelard control letters _ rules _ stirred _ _ _ _ k _ _ lp la _ eh on _ _ now _ _ _ _ taking adding spared _ _ _ _ _ c.unite_rules.ensures.all_of c.give.ensures.by_index);
       upper_bound = c.give.ensures.upper_bound;
-      added_len_unchanged = c.give.ensures.added_len_unchanged;
-      gains_len_unchanged = c.give.ensures.gains_len_unchanged;
-      log_len_unchanged = c.give.ensures.log_len_unchanged;
     }

@@ -21,7 +21,7 @@ returns-in_err-entries-clause-by_index c =
     λ el g old es now i rules k taking adding gained. rw c.from_residual.ensures (going-full _ _ _ _ _ _ _ _ _ _ _ _ _ _ _ _ _ c.loop-p.invariant c.loop-p-test.true (rw c.in_err-entries.was at c.take_row.ensures.by_index) (omega arith) el g old es now i rules k taking adding (record { none = gained }))
 
 pub loop-p-preserved : goal.loop-p-preserved
-loop-p-preserved c = going_on _ _ _ _ _ _ _ _ _ _ _ _ _ _ _ _ _ c.loop-p.invariant c.loop-p-test.true (rw c.in_ok-entries.was at c.take_row.ensures.by_index) (rw c.in_ok-entries.was at c.take_row.ensures.upper_bound) c.take_row.ensures.added_len_unchanged c.take_row.ensures.gains_len_unchanged c.take_row.ensures.log_len_unchanged
+loop-p-preserved c = going_on _ _ _ _ _ _ _ _ _ _ _ _ _ _ _ _ _ c.loop-p.invariant c.loop-p-test.true (rw c.in_ok-entries.was at c.take_row.ensures.by_index) (rw c.in_ok-entries.was at c.take_row.ensures.upper_bound) c.take_row.auto.added c.take_row.auto.gains c.take_row.auto.log
 
 pub shape_of-added : goal.shape_of-added
 shape_of-added c = c.loop-p.invariant.adds
@@ -37,7 +37,4 @@ returns c =
     record {
       by_index = (λ el g old es now i rules k taking adding gained. going-ends _ _ _ _ _ _ _ _ _ _ _ _ _ _ _ _ _ c.loop-p-test.false c.loop-p.invariant el g old es now i rules k taking adding (record { none = gained }));
       upper_bound = omega (arith, c.loop-p.invariant.room);
-      added_len_unchanged = c.loop-p.invariant.adds;
-      gains_len_unchanged = c.loop-p.invariant.gaining;
-      log_len_unchanged = c.loop-p.invariant.logs;
     }

@@ -18,9 +18,6 @@ returns-then-not-has_state c =
     record {
       by_index = (λ el g old es now i rules control stirred k lp ew taking adding spared. row_other k _ c.has_state.ensures (ap not c.if-not-has_state.true) c.requires.1 taking adding spared);
       upper_bound = omega (arith, c.requires.1);
-      added_len_unchanged = refl;
-      gains_len_unchanged = refl;
-      log_len_unchanged = refl;
     }
 
 pub loop-rest-init : goal.loop-rest-init
@@ -43,9 +40,6 @@ returns-then-rules-a c =
     record {
       by_index = (λ el g old es now i rules control stirred k lp ew taking adding spared. rowing-past _ _ _ _ _ _ _ _ _ _ _ _ _ _ _ _ _ c.loop-rest.invariant _ (omega (arith, c.loop-rest-test.true)) c.lowest_set-a.ensures c.if-rules-a.true el g old es now i rules control stirred k lp ew (his k _ c.has_state.ensures (ap not c.if-not-has_state.false)) taking adding spared);
       upper_bound = omega (arith, c.loop-rest.invariant.room);
-      added_len_unchanged = c.loop-rest.invariant.adds;
-      gains_len_unchanged = c.loop-rest.invariant.gaining;
-      log_len_unchanged = c.loop-rest.invariant.logs;
     }
 
 pub overflow_mul-p : goal.overflow_mul-p
@@ -68,7 +62,7 @@ pub loop-rest-smaller : goal.loop-rest-smaller
 loop-rest-smaller c = cleared-falls _ (omega (arith, c.loop-rest-test.true))
 
 pub loop-rest-preserved : goal.loop-rest-preserved
-loop-rest-preserved c = rowing-on _ _ _ _ _ _ _ _ _ _ _ _ _ _ _ _ _ c.loop-rest.invariant _ (omega (arith, c.loop-rest-test.true)) c.lowest_set-a.ensures c.if-rules-a.false (rw c.in_ok-entries.was at c.take_head.ensures.by_index) (rw c.in_ok-entries.was at c.take_head.ensures.upper_bound) c.take_head.ensures.added_len_unchanged c.take_head.ensures.gains_len_unchanged c.take_head.ensures.log_len_unchanged
+loop-rest-preserved c = rowing-on _ _ _ _ _ _ _ _ _ _ _ _ _ _ _ _ _ c.loop-rest.invariant _ (omega (arith, c.loop-rest-test.true)) c.lowest_set-a.ensures c.if-rules-a.false (rw c.in_ok-entries.was at c.take_head.ensures.by_index) (rw c.in_ok-entries.was at c.take_head.ensures.upper_bound) c.take_head.auto.added c.take_head.auto.gains c.take_head.auto.log
 
 pub shape_of-added : goal.shape_of-added
 shape_of-added c = c.loop-rest.invariant.adds
@@ -84,7 +78,4 @@ returns c =
     record {
       by_index = (λ el g old es now i rules control stirred k lp ew taking adding spared. rowing-ends _ _ _ _ _ _ _ _ _ _ _ _ _ _ _ _ _ c.loop-rest.invariant c.loop-rest-test.false el g old es now i rules control stirred k lp ew (his k _ c.has_state.ensures (ap not c.if-not-has_state.false)) taking adding spared);
       upper_bound = omega (arith, c.loop-rest.invariant.room);
-      added_len_unchanged = c.loop-rest.invariant.adds;
-      gains_len_unchanged = c.loop-rest.invariant.gaining;
-      log_len_unchanged = c.loop-rest.invariant.logs;
     }

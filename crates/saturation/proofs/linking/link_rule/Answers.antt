@@ -1,6 +1,4 @@
-use borrow.Author.Rules.{rules}
 use native.Mathlib.Omega.{arith}
-use mathlib.Core.Path.{refl}
 use lib.Arith.{digits_lt}
 use Rattle.saturation.proofs.Links.{linked-beyond, linked-at}
 use Rattle.unions.specs.PlaceLaws.{row_small}
@@ -10,16 +8,12 @@ pub returns-then-control-state : goal.returns-then-control-state
 returns-then-control-state c =
     record {
       linked_from = λ from. linked-beyond _ _ _ _ _ _ _ c.requires.4 (omega (arith, c.requires.1, c.requires.4, c.requires.6)) from c.unwrap_or.result (rw c.unwrap_or.ensures c.next_rule.ensures.next) (λ l m. omega (arith, l, c.if-control-state.true, c.from-state.ensures));
-      firsts_len_unchanged = refl;
-      nexts_len_unchanged = search rules;
     }
 
 pub returns-then-letters-letter : goal.returns-then-letters-letter
 returns-then-letters-letter c =
     record {
       linked_from = λ from. linked-beyond _ _ _ _ _ _ _ c.requires.4 (omega (arith, c.requires.1, c.requires.4, c.requires.6)) from c.unwrap_or-then-letters-letter.result (rw c.unwrap_or-then-letters-letter.ensures c.next_rule-then-letters-letter.ensures.next) (λ l m. omega (arith, m, c.if-letters-letter.true, c.from-letter.ensures));
-      firsts_len_unchanged = refl;
-      nexts_len_unchanged = search rules;
     }
 
 pub overflow_mul-head : goal.overflow_mul-head
@@ -44,6 +38,4 @@ pub returns : goal.returns
 returns c =
     record {
       linked_from = λ from. linked-at _ _ _ _ _ _ _ c.requires.4 (omega (arith, c.requires.1, c.requires.4, c.requires.6)) from _ _ c.from-state.ensures c.from-letter.ensures c.if-control-state.false c.if-letters-letter.false (omega (arith, digits_lt c.if-control-state.false c.if-letters-letter.false, c.requires.5));
-      firsts_len_unchanged = search rules;
-      nexts_len_unchanged = search rules;
     }

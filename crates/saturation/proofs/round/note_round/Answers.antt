@@ -12,7 +12,7 @@ pub take_heads-requires : goal.take_heads-requires
 take_heads-requires g c =
     let r = c.args.rules.now in
     let k = c.take_rules.new.kept in (
-      omega (arith, c.requires.1, c.take_rules.ensures.log_len_unchanged),
+      omega (arith, c.requires.1, c.take_rules.auto.log),
       (rw c.in_ok-offered.was at c.take_rules.ensures.upper_bound),
       c.requires.2,
       rows_in _ _ _ _ r.rows (rw k.families.area (heads-in-room c.requires.0)),

@@ -41,10 +41,10 @@ pub more_of_rule-lines-requires : goal.more_of_rule-lines-requires
 more_of_rule-lines-requires g c = let a = areas-held c.args.rules.now c.args.marks.now c.args.kept.now c.requires.0 c.args.size c.args.log.now c.requires.1 c.requires.2 in (a.fits, rw c.args.kept.now.families.keyed c.args.kept.now.families.lined, a.alike, a.masked, c.args.rules.now.ruled c.args.r c.requires.5, omega (arith, c.requires.5, c.args.rules.now.some), le_refl 16)
 
 pub keep_more-requires : goal.keep_more-requires
-keep_more-requires g c = let a = areas-held c.args.rules.now c.args.marks.now c.args.kept.now c.requires.0 c.args.size c.args.log.now c.requires.1 c.requires.2 in (omega (arith, next_row c.args.r c.args.rules.now.sizes.rulecount c.args.rules.now.frame.n c.requires.5, a.ended), omega (arith, c.args.rules.now.frame.words, c.more_of_rule-lines.ensures.more_len_unchanged), omega (arith, c.from-p.ensures, (c.args.rules.now.owned c.args.r c.requires.5).0, c.args.kept.now.stirring), omega (arith, c.from-a.ensures, (c.args.rules.now.owned c.args.r c.requires.5).1))
+keep_more-requires g c = let a = areas-held c.args.rules.now c.args.marks.now c.args.kept.now c.requires.0 c.args.size c.args.log.now c.requires.1 c.requires.2 in (omega (arith, next_row c.args.r c.args.rules.now.sizes.rulecount c.args.rules.now.frame.n c.requires.5, a.ended), omega (arith, c.args.rules.now.frame.words, c.more_of_rule-lines.auto.more), omega (arith, c.from-p.ensures, (c.args.rules.now.owned c.args.r c.requires.5).0, c.args.kept.now.stirring), omega (arith, c.from-a.ensures, (c.args.rules.now.owned c.args.r c.requires.5).1))
 
 pub give-requires-2 : goal.give-requires-2
-give-requires-2 g c = let a = areas-held c.args.rules.now c.args.marks.now c.args.kept.now c.requires.0 c.args.size c.args.log.now c.requires.1 c.requires.2 in (c.requires.1, c.requires.3, c.requires.2, c.args.rules.now.frame.words, omega (arith, c.args.rules.now.frame.words, c.more_of_rule-lines.ensures.more_len_unchanged), omega arith, omega (arith, head-low c.args.rules.now.frame.letters c.from-p.ensures c.from-a.ensures (c.args.rules.now.headed c.args.r c.requires.5), c.args.rules.now.frame.most), head-in-all a (c.from-p.result * c.args.rules.now.frame.letters + c.from-a.result) _ (head-low c.args.rules.now.frame.letters c.from-p.ensures c.from-a.ensures (c.args.rules.now.headed c.args.r c.requires.5)) c.more_of_rule-lines.ensures.all_len_unchanged, head-in-added a (c.from-p.result * c.args.rules.now.frame.letters + c.from-a.result) (head-low c.args.rules.now.frame.letters c.from-p.ensures c.from-a.ensures (c.args.rules.now.headed c.args.r c.requires.5)), omega (arith, c.from-p.ensures, (c.args.rules.now.owned c.args.r c.requires.5).0, c.args.kept.now.gaining), omega (arith, c.from-a.ensures, (c.args.rules.now.owned c.args.r c.requires.5).1))
+give-requires-2 g c = let a = areas-held c.args.rules.now c.args.marks.now c.args.kept.now c.requires.0 c.args.size c.args.log.now c.requires.1 c.requires.2 in (c.requires.1, c.requires.3, c.requires.2, c.args.rules.now.frame.words, omega (arith, c.args.rules.now.frame.words, c.more_of_rule-lines.auto.more), omega arith, omega (arith, head-low c.args.rules.now.frame.letters c.from-p.ensures c.from-a.ensures (c.args.rules.now.headed c.args.r c.requires.5), c.args.rules.now.frame.most), head-in-all a (c.from-p.result * c.args.rules.now.frame.letters + c.from-a.result) _ (head-low c.args.rules.now.frame.letters c.from-p.ensures c.from-a.ensures (c.args.rules.now.headed c.args.r c.requires.5)) c.more_of_rule-lines.auto.all, head-in-added a (c.from-p.result * c.args.rules.now.frame.letters + c.from-a.result) (head-low c.args.rules.now.frame.letters c.from-p.ensures c.from-a.ensures (c.args.rules.now.headed c.args.r c.requires.5)), omega (arith, c.from-p.ensures, (c.args.rules.now.owned c.args.r c.requires.5).0, c.args.kept.now.gaining), omega (arith, c.from-a.ensures, (c.args.rules.now.owned c.args.r c.requires.5).1))
 
 pub returns-then-is_direct-clause-by_index : goal.returns-then-is_direct-clause-by_index
 returns-then-is_direct-clause-by_index g c = (λ el g old es i now gr to. eloises-gives gr c.args.r c.requires.5 to to.pool (direct gr c.args.r c.requires.5 c.from.ensures c.from-then-is_direct.ensures (c.is_direct.ensures c.if-is_direct.true).1) c.from-p.ensures c.from-a.ensures refl c.first_of-first.ensures (c.is_direct.ensures c.if-is_direct.true).0 c.give.ensures.by_index)

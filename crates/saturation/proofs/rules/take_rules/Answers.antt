@@ -10,7 +10,7 @@ returns-in_err-entries-clause-by_index g c =
     λ el g old es i now gr off to. rw c.from_residual.ensures (wording-full c.loop-w.invariant c.take_word.new.kept (rw c.in_err-entries.was at c.take_word.ensures.by_index) (omega arith) el g old es i now gr off to)
 
 pub loop-w-preserved : goal.loop-w-preserved
-loop-w-preserved g c = wording-on c.loop-w.invariant c.take_word.new.kept (rw c.in_ok-entries.was at c.take_word.ensures.by_index) c.loop-w-test.true (rw c.in_ok-entries.was at c.take_word.ensures.upper_bound) c.take_word.ensures.log_len_unchanged
+loop-w-preserved g c = wording-on c.loop-w.invariant c.take_word.new.kept (rw c.in_ok-entries.was at c.take_word.ensures.by_index) c.loop-w-test.true (rw c.in_ok-entries.was at c.take_word.ensures.upper_bound) c.take_word.auto.log
 
 pub returns-clause-by_index : goal.returns-clause-by_index
 returns-clause-by_index g c = wording-ends c.loop-w.invariant c.loop-w-test.false c.args.rules.now.some

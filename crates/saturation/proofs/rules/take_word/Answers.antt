@@ -13,7 +13,7 @@ returns-in_err-entries-clause-by_index g c =
     λ el g old es i now gr off to. rw c.from_residual.ensures (going-full c.loop-rest.invariant _ (omega (arith, c.loop-rest-test.true)) c.lowest_set.ensures c.take_rule.new.kept (rw c.in_err-entries.was at c.take_rule.ensures.by_index) (omega arith) el g old es i now gr off to)
 
 pub loop-rest-preserved : goal.loop-rest-preserved
-loop-rest-preserved g c = going_on c.loop-rest.invariant _ (omega (arith, c.loop-rest-test.true)) c.lowest_set.ensures c.take_rule.new.kept (rw c.in_ok-entries.was at c.take_rule.ensures.by_index) (rw c.in_ok-entries.was at c.take_rule.ensures.upper_bound) c.take_rule.ensures.log_len_unchanged
+loop-rest-preserved g c = going_on c.loop-rest.invariant _ (omega (arith, c.loop-rest-test.true)) c.lowest_set.ensures c.take_rule.new.kept (rw c.in_ok-entries.was at c.take_rule.ensures.by_index) (rw c.in_ok-entries.was at c.take_rule.ensures.upper_bound) c.take_rule.auto.log
 
 pub returns-clause-by_index : goal.returns-clause-by_index
 returns-clause-by_index g c = going-ends c.loop-rest.invariant (omega (arith, c.loop-rest-test.false))

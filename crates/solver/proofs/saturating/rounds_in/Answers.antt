@@ -34,10 +34,10 @@ invariant_of-rules g c =
       states_few = b.states-few;
       rows = more_rows c.requires.0.1 c.requires.3;
       all_rows = omega (arith, c.requires.3);
-      first = omega (arith, c.requires.6, c.link.ensures.firsts_len_unchanged, length-replicate {A = ℕ} g.row.FIRSTS 0);
-      chained = omega (arith, c.link.ensures.nexts_len_unchanged);
+      first = omega (arith, c.requires.6, c.link.auto.firsts, length-replicate {A = ℕ} g.row.FIRSTS 0);
+      chained = omega (arith, c.link.auto.nexts);
       climbs = c.link.ensures.climbs;
-      reading = c.mark_rules.ensures.readers_len_unchanged;
+      reading = c.mark_rules.auto.readers;
     }
 
 pub invariant_of-marks : goal.invariant_of-marks

@@ -5,6 +5,4 @@ pub returns : goal.returns
 returns c =
     record {
       work_after = refused-left _ _ _ (c.fill.ensures.after (λ y e. e)) (c.fill-2.ensures.after (λ y e. e));
-      begun_len_unchanged = c.fill.ensures.len;
-      work_len_unchanged = c.fill-2.ensures.len;
     }

@@ -42,7 +42,7 @@ pub add_word-lines-requires : goal.add_word-lines-requires
 add_word-lines-requires c = (fits_on c.requires.0 c.loop-j.invariant.areas c.loop-j.invariant.keyed c.loop-j.invariant.resting c.loop-j.invariant.hinting, c.requires.1, omega (arith, c.loop-j.invariant.room, c.loop-j.invariant.keyed), omega (arith, c.requires.3, c.loop-j.invariant.mores), omega (arith, c.loop-j-test.true, c.requires.0.words), c.picked-word.ensures.result_value)
 
 pub loop-j-preserved : goal.loop-j-preserved
-loop-j-preserved c = running-on _ _ _ _ _ _ _ _ _ _ _ _ _ _ _ _ _ _ _ _ _ _ _ _ _ _ _ _ _ _ c.loop-j.invariant c.loop-j-test.true c.requires.4 c.picked-word.ensures.variant c.add_word-lines.ensures.by_index c.add_word-lines.ensures.upper_bound c.add_word-lines.ensures.more_len_unchanged c.add_word-lines.ensures.all_len_unchanged c.add_word-lines.ensures.keys_len_unchanged c.add_word-lines.ensures.rests_len_unchanged c.add_word-lines.ensures.hints_len_unchanged
+loop-j-preserved c = running-on _ _ _ _ _ _ _ _ _ _ _ _ _ _ _ _ _ _ _ _ _ _ _ _ _ _ _ _ _ _ c.loop-j.invariant c.loop-j-test.true c.requires.4 c.picked-word.ensures.variant c.add_word-lines.ensures.by_index c.add_word-lines.ensures.upper_bound c.add_word-lines.auto.more c.add_word-lines.auto.all c.add_word-lines.auto.keys c.add_word-lines.auto.rests c.add_word-lines.auto.hints
 
 pub shape_of-more : goal.shape_of-more
 shape_of-more c = c.loop-j.invariant.mores
@@ -64,9 +64,4 @@ returns c =
     record {
       by_index = running-ends _ _ _ _ _ _ _ _ _ _ _ _ _ _ _ _ _ _ _ _ _ _ _ c.loop-j-test.false c.loop-j.invariant;
       upper_bound = c.loop-j.invariant.room;
-      more_len_unchanged = c.loop-j.invariant.mores;
-      all_len_unchanged = c.loop-j.invariant.areas;
-      keys_len_unchanged = c.loop-j.invariant.keyed;
-      rests_len_unchanged = c.loop-j.invariant.resting;
-      hints_len_unchanged = c.loop-j.invariant.hinting;
     }

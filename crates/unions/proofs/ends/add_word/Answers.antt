@@ -22,7 +22,7 @@ pub overflow_mul-found : goal.overflow_mul-found
 overflow_mul-found c = (let few = c.requires.0.few in let most = c.requires.0.most in omega (arith, place-small c.family_of-found.result.family _ (omega (arith, few, most, c.family_of-found.ensures.family_bound, c.loop-rest.invariant.keyed)) c.requires.0.words))
 
 pub join_at-requires : goal.join_at-requires
-join_at-requires c = (omega (arith, c.requires.3, c.loop-rest.invariant.mores), omega (arith, within-area _ _ _ _ _ _ _ _ c.requires.0 c.family_of-found.result.family c.family_of-found.result.count c.family_of-found.ensures.family_bound.0 (omega (arith, c.family_of-found.ensures.family_bound.1, c.loop-rest.invariant.keyed)), c.loop-rest.invariant.areas, c.family_of-found.ensures.all_len_unchanged))
+join_at-requires c = (omega (arith, c.requires.3, c.loop-rest.invariant.mores), omega (arith, within-area _ _ _ _ _ _ _ _ c.requires.0 c.family_of-found.result.family c.family_of-found.result.count c.family_of-found.ensures.family_bound.0 (omega (arith, c.family_of-found.ensures.family_bound.1, c.loop-rest.invariant.keyed)), c.loop-rest.invariant.areas, c.family_of-found.auto.all))
 
 pub overflow_sub-rest : goal.overflow_sub-rest
 overflow_sub-rest c = omega (arith, c.loop-rest-test.true)
@@ -31,7 +31,7 @@ pub loop-rest-smaller : goal.loop-rest-smaller
 loop-rest-smaller c = cleared-falls _ (omega (arith, c.loop-rest-test.true))
 
 pub loop-rest-preserved : goal.loop-rest-preserved
-loop-rest-preserved c = wording-on _ _ _ _ _ _ _ _ _ _ _ _ _ _ _ _ _ _ _ _ _ _ _ _ _ _ _ _ _ c.loop-rest.invariant (omega (arith, c.loop-rest-test.true)) c.lowest_set-s.ensures c.requires.1 c.family_of-found.ensures.finds c.family_of-found.ensures.family_bound.1 c.join_at.ensures.joined c.join_at.ensures.words_len_unchanged c.family_of-found.ensures.all_len_unchanged c.family_of-found.ensures.keys_len_unchanged c.family_of-found.ensures.rests_len_unchanged c.family_of-found.ensures.hints_len_unchanged
+loop-rest-preserved c = wording-on _ _ _ _ _ _ _ _ _ _ _ _ _ _ _ _ _ _ _ _ _ _ _ _ _ _ _ _ _ c.loop-rest.invariant (omega (arith, c.loop-rest-test.true)) c.lowest_set-s.ensures c.requires.1 c.family_of-found.ensures.finds c.family_of-found.ensures.family_bound.1 c.join_at.ensures.joined c.join_at.auto.words c.family_of-found.auto.all c.family_of-found.auto.keys c.family_of-found.auto.rests c.family_of-found.auto.hints
 
 pub shape_of-more : goal.shape_of-more
 shape_of-more c = c.loop-rest.invariant.mores
@@ -53,9 +53,4 @@ returns c =
     record {
       by_index = wording-ends _ _ _ _ _ _ _ _ _ _ _ _ _ _ _ _ _ _ _ _ _ c.loop-rest-test.false c.loop-rest.invariant;
       upper_bound = c.loop-rest.invariant.room;
-      more_len_unchanged = c.loop-rest.invariant.mores;
-      all_len_unchanged = c.loop-rest.invariant.areas;
-      keys_len_unchanged = c.loop-rest.invariant.keyed;
-      rests_len_unchanged = c.loop-rest.invariant.resting;
-      hints_len_unchanged = c.loop-rest.invariant.hinting;
     }

@@ -14,11 +14,6 @@ returns-then-written-eq0 c =
     record {
       by_index = (λ el g old es i ra lt lq few growth listed none pool. (pool, ends-none _ _ _ _ _ _ _ _ _ _ _ _ _ _ _ _ pool growth _ _ _ lq _ _ _ _ c.if-written-eq0.true (listed c.if-written-eq0.true) refl none c.put_at.ensures.put));
       upper_bound = c.requires.2;
-      more_len_unchanged = c.put_at.ensures.words_len_unchanged;
-      all_len_unchanged = refl;
-      keys_len_unchanged = refl;
-      rests_len_unchanged = refl;
-      hints_len_unchanged = refl;
     }
 
 pub overflow_mul-head-then-written-eq1 : goal.overflow_mul-head-then-written-eq1
@@ -32,11 +27,6 @@ returns-then-written-eq1 c =
     record {
       by_index = (λ el g old es i ra lt lq few growth listed none pool. (pool, ends-one _ _ _ _ _ _ _ _ _ _ _ _ _ _ _ _ pool growth _ _ _ lq _ _ _ _ _ c.if-written-eq1.true lt (omega (arith, lt, c.requires.6)) refl c.copy_at.ensures.copied));
       upper_bound = c.requires.2;
-      more_len_unchanged = c.copy_at.ensures.words_len_unchanged;
-      all_len_unchanged = refl;
-      keys_len_unchanged = refl;
-      rests_len_unchanged = refl;
-      hints_len_unchanged = refl;
     }
 
 pub add_runs-requires : goal.add_runs-requires
@@ -47,9 +37,4 @@ returns c =
     record {
       by_index = (λ el g old es i ra lt lq few growth listed none pool. (let r = c.add_runs.ensures.by_index el g es ra lt (sets-row _ _ _ _ _ _ _ _ _ _ _ _ _ _ _ _ pool growth _ _ c.args.c lq _ _ lt (omega (arith, lt, c.requires.6)) refl) pool in (r.0, ends-two _ _ _ _ _ _ _ _ _ _ _ _ _ _ _ _ pool growth _ _ _ lq _ _ _ _ _ c.if-written-eq0.false c.if-written-eq1.false few lt (omega (arith, lt, c.requires.6)) (omega (arith, lt, c.requires.1)) refl none r.1)));
       upper_bound = c.add_runs.ensures.upper_bound;
-      more_len_unchanged = c.add_runs.ensures.more_len_unchanged;
-      all_len_unchanged = c.add_runs.ensures.all_len_unchanged;
-      keys_len_unchanged = c.add_runs.ensures.keys_len_unchanged;
-      rests_len_unchanged = c.add_runs.ensures.rests_len_unchanged;
-      hints_len_unchanged = c.add_runs.ensures.hints_len_unchanged;
     }

@@ -11,9 +11,4 @@ returns c =
     record {
       by_index = (λ el g old es i rule ra lt eq good cs growth listed none pool. (let q = c.from.ensures in let m = c.more_ends.ensures.by_index el g old es i ra lt (omega (arith, q, to_is el g c.args.frame.now.n old es i c.args.r c.args.rules.now rule eq, good.to, cs)) (omega (arith, count-is el g c.args.frame.now.n old es i c.args.r c.args.rules.now rule eq, good.count)) growth (λ z. (let l = listed (sym (count-is el g c.args.frame.now.n old es i c.args.r c.args.rules.now rule eq) ∙ z) in (l.0, l.1, l.2 ∙ sym (q ∙ to_is el g c.args.frame.now.n old es i c.args.r c.args.rules.now rule eq)))) none pool in (m.0, rule-more el g c.args.frame.now.n old es i c.args.r c.args.rules.now rule eq _ _ _ _ _ q refl c.from-2.ensures c.from-3.ensures m.1)));
       upper_bound = c.more_ends.ensures.upper_bound;
-      more_len_unchanged = c.more_ends.ensures.more_len_unchanged;
-      all_len_unchanged = c.more_ends.ensures.all_len_unchanged;
-      keys_len_unchanged = c.more_ends.ensures.keys_len_unchanged;
-      rests_len_unchanged = c.more_ends.ensures.rests_len_unchanged;
-      hints_len_unchanged = c.more_ends.ensures.hints_len_unchanged;
     }

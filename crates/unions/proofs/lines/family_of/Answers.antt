@@ -9,10 +9,6 @@ returns-then-x-eq0 c =
     record {
       finds = (λ el g es ra lt lx pool. (pool, one-element _ _ _ _ _ _ _ _ _ _ _ _ _ _ _ pool lx c.lowest.ensures c.requires.1 c.if-x-eq0.true c.head_of-family.ensures));
       family_bound = (omega (arith, head-within _ _ _ _ _ _ _ _ c.requires.0 _ _ _ c.lowest.ensures.small c.requires.3 c.head_of-family.ensures), c.requires.4);
-      all_len_unchanged = refl;
-      keys_len_unchanged = refl;
-      rests_len_unchanged = refl;
-      hints_len_unchanged = refl;
     }
 
 pub overflow_add-result : goal.overflow_add-result
@@ -23,8 +19,4 @@ returns-then-is_line c =
     record {
       finds = (λ el g es ra lt lx pool. (pool, of-line _ (c.is_line.ensures c.if-is_line.true).0 refl (c.is_line.ensures c.if-is_line.true).1));
       family_bound = (omega (arith, (c.is_line.ensures c.if-is_line.true).0), c.requires.4);
-      all_len_unchanged = refl;
-      keys_len_unchanged = refl;
-      rests_len_unchanged = refl;
-      hints_len_unchanged = refl;
     }

@@ -2,7 +2,6 @@ use native.Mathlib.Omega.{arith}
 use native.Mathlib.Nat.{le_refl}
 use mathlib.Core.Path.{refl}
 use Prim.Native.Nat.{◌+◌}
-use lib.ListN.{length-set}
 use Rattle.unions.specs.Pool.{of-line}
 use Rattle.unions.specs.PlaceLaws.{place-small}
 use Rattle.unions.proofs.Making.{within-area, head-within, made}
@@ -16,10 +15,6 @@ returns-then-is_line c =
     record {
       finding = λ el g es z ra lt lc ls ly lz added pool named. (pool, of-line _ (c.is_line.ensures c.if-is_line.true).0 refl (c.is_line.ensures c.if-is_line.true).1);
       family_bound = (omega (arith, (c.is_line.ensures c.if-is_line.true).0), omega arith);
-      all_len_unchanged = refl;
-      keys_len_unchanged = refl;
-      rests_len_unchanged = refl;
-      hints_len_unchanged = refl;
     }
 
 pub overflow_mul-family : goal.overflow_mul-family
@@ -35,7 +30,7 @@ pub overflow_mul-frame : goal.overflow_mul-frame
 overflow_mul-frame c = (let few = c.requires.0.few in let most = c.requires.0.most in omega (arith, place-small (c.args.frame.now.heads + c.args.before.count) _ (omega (arith, few, most, c.requires.4)) c.requires.0.words))
 
 pub copy_at-requires : goal.copy_at-requires
-copy_at-requires c = (within-area _ _ _ _ _ _ _ _ c.requires.0 (c.args.frame.now.heads + c.args.before.count) (c.args.before.count + 1) (omega arith) (omega (arith, c.requires.4)), omega (arith, c.unite_pair.ensures.unions_len_unchanged, c.requires.0.words))
+copy_at-requires c = (within-area _ _ _ _ _ _ _ _ c.requires.0 (c.args.frame.now.heads + c.args.before.count) (c.args.before.count + 1) (omega arith) (omega (arith, c.requires.4)), omega (arith, c.unite_pair.auto.unions, c.requires.0.words))
 
 pub offset_bounds-keys-count : goal.offset_bounds-keys-count
 offset_bounds-keys-count c = (let most = c.requires.0.most in omega (arith, most, c.requires.4))
@@ -69,8 +64,4 @@ returns c =
     record {
       finding = made _ _ _ _ _ _ _ _ _ _ _ _ _ c.key_of.result c.head_of.result _ _ c.requires.4 c.requires.0.same c.key_of.ensures c.head_of.ensures c.unite_pair.ensures.unites_into c.copy_at.ensures.copied;
       family_bound = (omega arith, le_refl _);
-      all_len_unchanged = c.copy_at.ensures.words_len_unchanged;
-      keys_len_unchanged = simp length-set;
-      rests_len_unchanged = simp length-set;
-      hints_len_unchanged = simp length-set;
     }

@@ -42,7 +42,7 @@ pub loop-rest-smaller : goal.loop-rest-smaller
 loop-rest-smaller c = made-less _ _ _ _ _ _ _ _ _ _ _ _ _ _ _ _ _ _ _ c.loop-rest.invariant c.requires.2 _ _ c.highest-s.ensures (one_shifted _ c.highest-s.ensures.small)
 
 pub loop-rest-preserved : goal.loop-rest-preserved
-loop-rest-preserved c = made-on _ _ _ _ _ _ _ _ _ _ _ _ _ _ _ _ _ _ _ c.loop-rest.invariant c.requires.2 _ _ c.highest-s.ensures (one_shifted _ c.highest-s.ensures.small) _ _ _ _ _ _ c.line_for-found.ensures.finding c.line_for-found.ensures.family_bound c.line_for-found.ensures.all_len_unchanged c.line_for-found.ensures.keys_len_unchanged c.line_for-found.ensures.rests_len_unchanged c.line_for-found.ensures.hints_len_unchanged c.requires.3
+loop-rest-preserved c = made-on _ _ _ _ _ _ _ _ _ _ _ _ _ _ _ _ _ _ _ c.loop-rest.invariant c.requires.2 _ _ c.highest-s.ensures (one_shifted _ c.highest-s.ensures.small) _ _ _ _ _ _ c.line_for-found.ensures.finding c.line_for-found.ensures.family_bound c.line_for-found.auto.all c.line_for-found.auto.keys c.line_for-found.auto.rests c.line_for-found.auto.hints c.requires.3
 
 pub shape_of-all : goal.shape_of-all
 shape_of-all c = c.loop-rest.invariant.areas
@@ -61,8 +61,4 @@ returns c =
     record {
       finds = made-last _ _ _ _ _ _ _ _ _ _ _ _ _ _ _ _ _ _ _ c.loop-rest-test.false c.loop-rest.invariant;
       family_bound = (c.loop-rest.invariant.placed, omega (arith, c.loop-rest.invariant.room));
-      all_len_unchanged = c.loop-rest.invariant.areas;
-      keys_len_unchanged = c.loop-rest.invariant.keyed;
-      rests_len_unchanged = c.loop-rest.invariant.resting;
-      hints_len_unchanged = c.loop-rest.invariant.hinting;
     }

@@ -10,7 +10,7 @@ pub renew_line-requires : goal.renew_line-requires
 renew_line-requires c = (renewable-on c.requires.0 c.loop-k.invariant.areas c.loop-k.invariant.news, omega (arith, c.loop-k-test.true, c.requires.1))
 
 pub loop-k-preserved : goal.loop-k-preserved
-loop-k-preserved c = renewed-on c.loop-k.invariant c.loop-k-test.true c.renew_line.ensures.by_index c.renew_line.ensures.all_len_unchanged c.renew_line.ensures.len_unchanged
+loop-k-preserved c = renewed-on c.loop-k.invariant c.loop-k-test.true c.renew_line.ensures.by_index c.renew_line.auto.all c.renew_line.auto.new
 
 pub shape_of-all : goal.shape_of-all
 shape_of-all c = c.loop-k.invariant.areas
@@ -22,6 +22,4 @@ pub returns : goal.returns
 returns c =
     record {
       by_index = renewed-last c.loop-k.invariant c.loop-k-test.false;
-      all_len_unchanged = c.loop-k.invariant.areas;
-      len_unchanged = c.loop-k.invariant.news;
     }

@@ -5,5 +5,4 @@ pub returns-then-sets_at : goal.returns-then-sets_at
 returns-then-sets_at c =
     record {
       unites_into = (λ r. united-back _ _ _ _ _ _ _ (c.unite_into.ensures.unites_into r));
-      unions_len_unchanged = c.unite_into.ensures.out_len_unchanged;
     }
