@@ -19,6 +19,7 @@ pub mod Growing
 pub mod GrowingLaws
 pub mod GrownRound
 pub mod InsertLaws
+pub mod Moving
 pub mod StoredRows
 pub mod Inserting
 pub mod Heads

@@ -111,7 +111,8 @@ fn add_runs(
     let heads = (sizes.control as usize) * letters;
     let rulecount = sizes.rulecount;
     let mut count = round.old;
-    for turn in 0..heads * 2 {
+    let mut found = Some(count);
+    'round: for turn in 0..heads * 2 {
         let head = turn % heads;
         let p = (head / letters) as u8;
         let a = (head % letters) as u8;
@@ -129,12 +130,16 @@ fn add_runs(
             list_later(&task, lists, spans, r, start, end);
             let listed = Lists { sets: lists, spans };
             for i in start..end {
-                count = run_at(&task, &listed, table, memo, count, r, i, round.late)?;
+                found = run_at(&task, &listed, table, memo, count, r, i, round.late);
+                let Some(more) = found else {
+                    break 'round;
+                };
+                count = more;
             }
             next = next_rule(round.rules, rulecount, task.job.end, p, a);
         }
     }
-    Some(count)
+    found
 }
 
 // The first rule of a head in one of its two turns, the later one for Abelard's heads: none where the turn is not its own.

@@ -17,13 +17,13 @@ use Rattle.walk.proofs.Rounding.{runs_from, rules_from, turn_at, turns_from, job
 use Rattle.walk.proofs.round.add_runs.Given as goal
 
 abbrev pub invariant-loop-i : goal.invariant-loop-i
-invariant-loop-i l = (l.round.old * 3 ≤ length l.table → l.count * 3 ≤ length l.table) × Turning l.sizes l.round.rules.now l.round.places.now l.round.fresh.now l.round.work.now l.round.old l.round.birthdate l.round.late (runs_from l.round.birthdate l.task.job l.r (runs_of l.round.rules.now l.r l.round.old) 0) (runs_from l.round.birthdate l.task.job l.r (runs_of l.round.rules.now l.r l.round.old) l.i) (job_entries l.round.birthdate l.p l.a l.r) (job_entries l.round.birthdate l.p l.a l.r) l.initial.table l.initial.count l.initial.memo l.table (Some l.count) l.memo
+invariant-loop-i l = (l.found ≡ Some l.count) × (l.round.old * 3 ≤ length l.table → l.count * 3 ≤ length l.table) × Turning l.sizes l.round.rules.now l.round.places.now l.round.fresh.now l.round.work.now l.round.old l.round.birthdate l.round.late (runs_from l.round.birthdate l.task.job l.r (runs_of l.round.rules.now l.r l.round.old) 0) (runs_from l.round.birthdate l.task.job l.r (runs_of l.round.rules.now l.r l.round.old) l.i) (job_entries l.round.birthdate l.p l.a l.r) (job_entries l.round.birthdate l.p l.a l.r) l.initial.table l.initial.count l.initial.memo l.table (Some l.count) l.memo
 
 abbrev pub invariant-loop-next : goal.invariant-loop-next
-invariant-loop-next l = IfSome l.next (λ r. (r < l.rulecount) × (of_head l.p l.a (rule_at l.round.rules.now (r * 6) 0) ≡ true)) × (l.round.old * 3 ≤ length l.table → l.count * 3 ≤ length l.table) × Turning l.sizes l.round.rules.now l.round.places.now l.round.fresh.now l.round.work.now l.round.old l.round.birthdate l.round.late (turn_at l.round.birthdate l.letters l.heads l.turn) (rules_from l.round.birthdate l.p l.a (unwrap_or l.next l.rulecount)) (turn_at l.round.birthdate l.letters l.heads l.turn) (rules_from l.round.birthdate l.p l.a (unwrap_or l.next l.rulecount)) l.initial.table l.initial.count l.initial.memo l.table (Some l.count) l.memo × Rightly l.sizes l.round.rules.now l.round.places.now l.round.fresh.now l.round.work.now l.round.old l.round.birthdate l.round.late l.lists l.spans
+invariant-loop-next l = (l.found ≡ Some l.count) × IfSome l.next (λ r. (r < l.rulecount) × (of_head l.p l.a (rule_at l.round.rules.now (r * 6) 0) ≡ true)) × (l.round.old * 3 ≤ length l.table → l.count * 3 ≤ length l.table) × Turning l.sizes l.round.rules.now l.round.places.now l.round.fresh.now l.round.work.now l.round.old l.round.birthdate l.round.late (turn_at l.round.birthdate l.letters l.heads l.turn) (rules_from l.round.birthdate l.p l.a (unwrap_or l.next l.rulecount)) (turn_at l.round.birthdate l.letters l.heads l.turn) (rules_from l.round.birthdate l.p l.a (unwrap_or l.next l.rulecount)) l.initial.table l.initial.count l.initial.memo l.table (Some l.count) l.memo × Rightly l.sizes l.round.rules.now l.round.places.now l.round.fresh.now l.round.work.now l.round.old l.round.birthdate l.round.late l.lists l.spans
 
 abbrev pub decreases-loop-next : goal.decreases-loop-next
 decreases-loop-next l = l.rulecount - unwrap_or l.next l.rulecount
 
-abbrev pub invariant-loop-turn : goal.invariant-loop-turn
-invariant-loop-turn l = (l.round.old * 3 ≤ length l.table → l.count * 3 ≤ length l.table) × Turning l.sizes l.round.rules.now l.round.places.now l.round.fresh.now l.round.work.now l.round.old l.round.birthdate l.round.late (turns_from l.round.birthdate l.letters l.heads 0) (turns_from l.round.birthdate l.letters l.heads l.turn) (turns_from l.round.birthdate l.letters l.heads 0) (turns_from l.round.birthdate l.letters l.heads l.turn) l.initial.table l.initial.count l.initial.memo l.table (Some l.count) l.memo × Rightly l.sizes l.round.rules.now l.round.places.now l.round.fresh.now l.round.work.now l.round.old l.round.birthdate l.round.late l.lists l.spans
+abbrev pub invariant-round : goal.invariant-round
+invariant-round l = (l.found ≡ Some l.count) × (l.round.old * 3 ≤ length l.table → l.count * 3 ≤ length l.table) × Turning l.sizes l.round.rules.now l.round.places.now l.round.fresh.now l.round.work.now l.round.old l.round.birthdate l.round.late (turns_from l.round.birthdate l.letters l.heads 0) (turns_from l.round.birthdate l.letters l.heads l.turn) (turns_from l.round.birthdate l.letters l.heads 0) (turns_from l.round.birthdate l.letters l.heads l.turn) l.initial.table l.initial.count l.initial.memo l.table (Some l.count) l.memo × Rightly l.sizes l.round.rules.now l.round.places.now l.round.fresh.now l.round.work.now l.round.old l.round.birthdate l.round.late l.lists l.spans
