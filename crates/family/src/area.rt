@@ -76,7 +76,9 @@ pub fn copy_at(words: &mut [u64], to: usize, others: &[u64], at: usize, n: usize
         words[to + 3] = others[at + 3];
         return;
     }
-    words[to..to + n].copy_from_slice(&others[at..at + n]);
+    for i in 0..n {
+        words[to + i] = others[at + i];
+    }
 }
 
 // Its sets put into the family at a place of `words`.

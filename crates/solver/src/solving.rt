@@ -113,6 +113,16 @@ fn round_zero(sizes: Sizes, rules: &[u8], targets: &[u32], table: &mut [u32]) ->
     Some(count)
 }
 
+// Copies an area over one of the same length.
+fn copy(from: &[u32], to: &mut [u32])
+    requires { length from.now ≡ length to.old }
+    ensures { to.new ≡ from.now }
+{
+    for i in 0..from.len() {
+        to[i] = from[i];
+    }
+}
+
 // The rounds after round 0, taken in order until settled. The work area holds the old round.
 fn rounds_from(
     sizes: Sizes,
@@ -128,7 +138,7 @@ fn rounds_from(
     let mut count = first;
     let mut i = 0u32;
     loop {
-        work.copy_from_slice(table);
+        copy(table, work);
         let next = take_wide(sizes, rules, work, table, count, i + 1);
         if next == Some(count) {
             work.fill(0);

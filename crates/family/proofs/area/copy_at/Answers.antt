@@ -1,8 +1,8 @@
+use mathlib.Core.Path.{refl}
 use borrow.Author.Rules.{rules}
 use native.Mathlib.Omega.{arith}
 use lib.ListN.{length-set}
-use Rattle.std.proofs.lemmas.List.{places}
-use Rattle.family.proofs.Areas.{walk-part, copied, copied_all, copied-one, copied-two, copied-four}
+use Rattle.family.proofs.Areas.{walk-starts, walk-on, copied, copied_all, copied-one, copied-two, copied-four}
 use Rattle.family.proofs.area.copy_at.Goals as goal
 
 pub offset_bounds-others-at : goal.offset_bounds-others-at
@@ -131,8 +131,32 @@ returns-then-n-eq4 c =
       copied = copied-four _ _ _ _ _ c.if-n-eq4.true c.requires.0;
     }
 
+pub loop-i-init : goal.loop-i-init
+loop-i-init c = walk-starts _ _ _ _
+
+pub overflow_add-words-in-loop-i : goal.overflow_add-words-in-loop-i
+overflow_add-words-in-loop-i c = omega arith
+
+pub offset_bounds-others-at-in-loop-i : goal.offset_bounds-others-at-in-loop-i
+offset_bounds-others-at-in-loop-i c = omega arith
+
+pub bounds-others-at-in-loop-i : goal.bounds-others-at-in-loop-i
+bounds-others-at-in-loop-i c = omega (arith, c.requires, c.loop-i-test.true)
+
+pub overflow_add-words-in-loop-i-2 : goal.overflow_add-words-in-loop-i-2
+overflow_add-words-in-loop-i-2 c = omega arith
+
+pub offset_bounds-words-to-in-loop-i : goal.offset_bounds-words-to-in-loop-i
+offset_bounds-words-to-in-loop-i c = omega arith
+
+pub bounds-words-to-in-loop-i : goal.bounds-words-to-in-loop-i
+bounds-words-to-in-loop-i c = omega (arith, c.loop-i.invariant.long, c.requires, c.loop-i-test.true)
+
+pub loop-i-preserved : goal.loop-i-preserved
+loop-i-preserved c = walk-on _ _ _ _ _ _ c.loop-i.invariant c.requires.0 c.loop-i-test.true _ refl
+
 pub returns : goal.returns
 returns c =
     record {
-      copied = copied_all _ _ _ _ _ _ _ (walk-part _ _ _ _ (copied _ _) _ c.requires.0 (omega arith) (search rules) (λ j l. rw c.copy_from_slice.ensures.after (search (rules, places)))) (omega arith);
+      copied = copied_all _ _ _ _ _ _ _ c.loop-i.invariant c.loop-i-test.false;
     }
