@@ -47,16 +47,16 @@ pub fn older_below(last: usize, r: usize, among: u32, late: u32) -> u32
 }
 
 // The states that have an entry of the last round on a letter.
-pub fn fresh_on(fresh: &[u32; LETTERS], letter: u8) -> u32
+pub fn fresh_on(fresh: &[u32], letter: u8) -> u32
     ensures { result ≡ get_or fresh.now letter 0 }
 {
-    fresh[letter as usize]
+    fresh.get(letter as usize).copied().unwrap_or(0)
 }
 
 // Notes for each letter the states that have an entry on it whose first word is not below `late`.
-pub fn set_fresh(fresh: &mut [u32; LETTERS], work: &[u32], count: usize, late: u32)
+pub fn set_fresh(fresh: &mut [u32], work: &[u32], count: usize, late: u32)
     requires { count * 3 ≤ length work.now }
-    ensures { Marked work.now fresh.new late count }
+    ensures { length fresh.old ≡ 256 → Marked work.now fresh.new late count }
 {
     for i in 0..count {
         mark(fresh, work, i, late);
@@ -64,9 +64,9 @@ pub fn set_fresh(fresh: &mut [u32; LETTERS], work: &[u32], count: usize, late: u
 }
 
 // That of entry i.
-fn mark(fresh: &mut [u32; LETTERS], work: &[u32], i: usize, late: u32)
+fn mark(fresh: &mut [u32], work: &[u32], i: usize, late: u32)
     requires { (i + 1) * 3 ≤ length work.now }
-    ensures { Marked work.now fresh.old late i → Marked work.now fresh.new late (i + 1) }
+    ensures { length fresh.old ≡ 256 → Marked work.now fresh.old late i → Marked work.now fresh.new late (i + 1) }
 {
     let entry = EntryWords::at(work, i);
     if entry.first < late {
@@ -77,12 +77,15 @@ fn mark(fresh: &mut [u32; LETTERS], work: &[u32], i: usize, late: u32)
         return;
     }
     let at = entry.letter() as usize;
+    if fresh.len() <= at {
+        return;
+    }
     fresh[at] = joined(fresh[at], state);
 }
 
 // One more than the number of the last rule of a head, among those from rule r on and before `end`, that can have an entry of the
-// last round; r, where there is none.
-pub fn last_fresh(rules: &[u8], fresh: &[u32; LETTERS], r: usize, end: usize, p: u8, a: u8) -> usize
+// last round; r, where there is none, or `end`, where that is less.
+pub fn last_fresh(rules: &[u8], fresh: &[u32], r: usize, end: usize, p: u8, a: u8) -> usize
     requires { (end * 6 ≤ length rules.now) × (end ≤ max_rules) }
     ensures { SettledFrom rules.now fresh.now end p a result }
 {
@@ -91,11 +94,11 @@ pub fn last_fresh(rules: &[u8], fresh: &[u32; LETTERS], r: usize, end: usize, p:
             return k + 1;
         }
     }
-    r
+    r.min(end)
 }
 
 // Whether rule r is one of a head, and a run of it can have an entry of the last round.
-fn is_fresh(rules: &[u8], fresh: &[u32; LETTERS], r: usize, p: u8, a: u8) -> bool
+fn is_fresh(rules: &[u8], fresh: &[u32], r: usize, p: u8, a: u8) -> bool
     requires { ((r + 1) * 6 ≤ length rules.now) × (r < max_rules) }
     ensures { result ≡ false → of_head p a (rule_at rules.now (r * 6) 0) ≡ true
         → Settled fresh.now (rule_at rules.now (r * 6) 0) }

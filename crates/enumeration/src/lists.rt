@@ -43,17 +43,17 @@ pub fn is_listed(lists: &[u32], spans: &[usize], r: usize) -> bool
 // The sets of the first `count` entries of an area, kept as the list of rule r where there is room for them from `room` on: where
 // the room begins afterwards.
 pub fn keep_list(
-    lists: &mut [u32; LISTED],
-    spans: &mut [usize; SPANS],
+    lists: &mut [u32],
+    spans: &mut [usize],
     sets: &[u32],
     count: usize,
     r: usize,
     room: usize,
 ) -> usize
-    requires { (count * 3 ≤ length sets.now) × (r < 256) × (room ≤ 4096) }
+    requires { (count * 3 ≤ length sets.now) × (r < 256) × (room ≤ length lists.old) × (length spans.old ≡ 512) }
     ensures { Kept lists.old spans.old sets.now count r room lists.new spans.new result }
 {
-    if LISTED - room < count {
+    if lists.len() - room < count {
         return room;
     }
     copy_sets(lists, sets, count, room);
@@ -63,8 +63,8 @@ pub fn keep_list(
 }
 
 // Copies the sets of the first `count` entries, to `room` and on.
-fn copy_sets(lists: &mut [u32; LISTED], sets: &[u32], count: usize, room: usize)
-    requires { (count * 3 ≤ length sets.now) × (room + count ≤ 4096) }
+fn copy_sets(lists: &mut [u32], sets: &[u32], count: usize, room: usize)
+    requires { (count * 3 ≤ length sets.now) × (room + count ≤ length lists.old) }
     ensures { Copied lists.old sets.now count room lists.new }
 {
     for k in 0..count {

@@ -11,31 +11,31 @@ use table::{end_of, start_of};
 pub const PLACES: usize = 4096;
 
 // The place of a head's first entry, or `count` where the head is none.
-pub fn start_at(places: &[usize; PLACES], count: usize, q: u8, a: u8) -> usize
+pub fn start_at(places: &[usize], count: usize, q: u8, a: u8) -> usize
     ensures upper_bound { result ≤ count }
     ensures by_index { (work : List ℕ) → PlacedHead work count places.now q a → Placed work count (key q a 0) result }
 {
     let at = place_at(q, a);
-    if PLACES <= at {
+    if places.len() <= at {
         return count;
     }
     places[at].min(count)
 }
 
 // The place after its last, or `count`.
-pub fn end_at(places: &[usize; PLACES], count: usize, q: u8, a: u8) -> usize
+pub fn end_at(places: &[usize], count: usize, q: u8, a: u8) -> usize
     ensures upper_bound { result ≤ count }
     ensures by_index { (work : List ℕ) → PlacedHead work count places.now q a → Placed work count (key q a 4294967296) result }
 {
     let at = place_at(q, a) + 1;
-    if PLACES <= at {
+    if places.len() <= at {
         return count;
     }
     places[at].min(count)
 }
 
 // No run passes a set on a letter: it is empty, or a state of it has no entry on the letter.
-pub fn is_blocked(places: &[usize; PLACES], count: usize, set: u32, a: u8) -> bool
+pub fn is_blocked(places: &[usize], count: usize, set: u32, a: u8) -> bool
     ensures blocked { result ≡ true → 0 < set → Blocked set count places.now a }
     ensures set_nonzero { result ≡ false → 0 < set }
 {
@@ -61,9 +61,9 @@ fn place_at(q: u8, a: u8) -> usize
 }
 
 // Looks up the places of every head of states below `states` and letters below `letters`.
-pub fn set_places(places: &mut [usize; PLACES], work: &[u32], count: usize, states: u8, letters: u8)
+pub fn set_places(places: &mut [usize], work: &[u32], count: usize, states: u8, letters: u8)
     requires { count * 3 ≤ length work.now }
-    ensures { states ≤ 32 → letters ≤ 64 → PlacedTo work.now count places.new letters (states * 64) }
+    ensures { length places.old ≡ 4096 → states ≤ 32 → letters ≤ 64 → PlacedTo work.now count places.new letters (states * 64) }
 {
     for q in 0..states {
         set_letters(places, work, count, q, letters);
@@ -71,9 +71,9 @@ pub fn set_places(places: &mut [usize; PLACES], work: &[u32], count: usize, stat
 }
 
 // Those of one state.
-fn set_letters(places: &mut [usize; PLACES], work: &[u32], count: usize, q: u8, letters: u8)
+fn set_letters(places: &mut [usize], work: &[u32], count: usize, q: u8, letters: u8)
     requires { count * 3 ≤ length work.now }
-    ensures { q < 32 → letters ≤ 64 → PlacedTo work.now count places.old letters (q * 64)
+    ensures { length places.old ≡ 4096 → q < 32 → letters ≤ 64 → PlacedTo work.now count places.old letters (q * 64)
         → PlacedTo work.now count places.new letters ((q + 1) * 64) }
 {
     for a in 0..letters {
@@ -82,13 +82,13 @@ fn set_letters(places: &mut [usize; PLACES], work: &[u32], count: usize, q: u8, 
 }
 
 // Those of one head.
-fn set_head(places: &mut [usize; PLACES], work: &[u32], count: usize, q: u8, a: u8)
+fn set_head(places: &mut [usize], work: &[u32], count: usize, q: u8, a: u8)
     requires { count * 3 ≤ length work.now }
-    ensures { (letters : ℕ) → q < 32 → a < 64 → letters ≤ 64 → PlacedTo work.now count places.old letters (q * 64 + a)
+    ensures { (letters : ℕ) → length places.old ≡ 4096 → q < 32 → a < 64 → letters ≤ 64 → PlacedTo work.now count places.old letters (q * 64 + a)
         → PlacedTo work.now count places.new letters (q * 64 + a + 1) }
 {
     let at = place_at(q, a);
-    if PLACES <= at + 1 {
+    if places.len() <= at + 1 {
         return;
     }
     places[at] = start_of(work, count, q, a);

@@ -18,10 +18,10 @@ ghost use Rattle.enumeration.specs.Past.{older, Past, Aging};
 ghost use Rattle.enumeration.specs.NextLaws.{begin_of};
 ghost use Rattle.enumeration.specs.Jobs.{tag_of, Able, Late, Whole, Entered, Finished, sub_runs, begin_runs};
 
-use crate::fresh::{LETTERS, fresh_on, older_below, still_late};
+use crate::fresh::{fresh_on, older_below, still_late};
 use crate::lists::{Lists, is_listed, list_end, list_start};
 use crate::memo::{finish, is_finished};
-use crate::places::{PLACES, end_at, is_blocked, start_at};
+use crate::places::{end_at, is_blocked, start_at};
 use game::Game;
 use rounds::{highest, insert, next_rule};
 use table::EntryWords;
@@ -46,8 +46,8 @@ pub struct Task<'a> {
     pub job: Job,
     pub rules: &'a [u8],
     pub work: &'a [u32],
-    pub places: &'a [usize; PLACES],
-    pub fresh: &'a [u32; LETTERS],
+    pub places: &'a [usize],
+    pub fresh: &'a [u32],
     ghost able: { Able job (length rules.now) (length work.now) },
 }
 

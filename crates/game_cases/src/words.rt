@@ -13,7 +13,7 @@
 //                        is this number and whose others are 0
 //
 // Words that are cases:
-//   no QUESTION PLACE    the file is refused so, and the game handed out is all zero
+//   no QUESTION PLACE    the file is refused so, and no game is handed out
 //   cuts START END       the same for the file's first bytes: 19 at START for each number of them between, 8 at END for END
 //   bytes LOW HIGH QUESTION PLACE   the same with each of these numbers as its last byte
 //   game P S L A F R T   it is accepted: sizes, Abelard's states, finals, numbers of rules and of target transitions

@@ -1,16 +1,14 @@
-// What is new since the last round, and marks of it.
+// Marks of what is new since the last round.
 ghost use Rattle.std.specs.Prelude.{◌≡◌, ℕ, ◌<◌, length, get_or};
 
-// What each head and line has more than before; for each letter the elements with a new transition, and those with any; for each state the letters whose heads have new transitions;
-// and the rules whose first head had a transition.
+// For each letter the elements with a new transition, and those with any; for each state the letters whose heads have new transitions; and
+// the rules whose first head had a transition.
 #[derive(Drop)]
-pub struct Marks<const WORDS: usize> {
-    pub more: [u64; WORDS],
+pub struct Marks {
     pub fresh: [usize; 64],
     pub alive: [usize; 64],
     pub news: [u64; 32],
     pub held: [u64; 4],
-    ghost newer: { length more ≡ WORDS },
     ghost freshes: { length fresh ≡ 64 },
     ghost alives: { length alive ≡ 64 },
     ghost tidings: { length news ≡ 32 },

@@ -66,7 +66,7 @@ pub extern "C" fn pushdown_read(file: &[u8], out: &mut [u64]) -> u32
             ]);
             0
         }
-        Err(refusal) => refuse(refusal, out),
+        Err(unread) => refuse(unread, out),
     }
 }
 
@@ -89,7 +89,7 @@ pub extern "C" fn pushdown_solve(
             out.copy_from_slice(&[0, solved.entries as u64, solved.rounds as u64]);
             0
         }
-        Err(refusal) => refuse(refusal, out),
+        Err(unsolved) => refuse(unsolved, out),
     }
 }
 
@@ -112,7 +112,7 @@ pub extern "C" fn pushdown_judge(
             out.copy_from_slice(&words_of(verdict));
             0
         }
-        Err(refusal) => refuse(refusal, out),
+        Err(unjudged) => refuse(unjudged, out),
     }
 }
 
@@ -136,7 +136,7 @@ pub extern "C" fn pushdown_play(file: &[u8], session: &mut [u8], rule: u32, out:
             out[0] = 0;
             0
         }
-        Err(refusal) => refuse(refusal, out),
+        Err(unplayed) => refuse(unplayed, out),
     }
 }
 

@@ -26,20 +26,21 @@ use Rattle.saturation.specs.Kept.{Room, GroundOf, RulesHeld, RulesDone}
 use Rattle.saturation.specs.RuleLaws.{rule-same}
 use Rattle.saturation.proofs.RuleTurns.{pass, back}
 
--- the heads' families are within the arrays
-pub heads-in-room : {heads n rulecount words lines given ends : ℕ} → Room heads n rulecount words lines given ends → heads * n ≤ words
-heads-in-room {heads} {n} {lines = lines} room = omega (arith, room.area, mul-le-mul_right n (more heads lines))
+-- the heads' families are within the areas
+pub heads-in-room : {heads n rulecount all more keys rests hints ends added : ℕ} → Room heads n rulecount all more keys rests hints ends added → heads * n ≤ all
+heads-in-room {heads} {n} {keys = keys} room = omega (arith, room.area, mul-le-mul_right n (above heads keys))
   where
-    more : (x y : ℕ) → x ≤ x + y
-    more x y = omega arith
+    above : (x y : ℕ) → x ≤ x + y
+    above x y = omega arith
 
 pub rows_in : (rows heads n m : ℕ) → rows ≤ heads → heads * n ≤ m → rows * n ≤ m
 rows_in rows heads n m l h = omega (arith, h, mul-le-mul_right n l)
 
 -- the rules of a word of marks that are not in `rest` are taken
-pub record Going {W L H G E : ℕ} (word from size birthdate : ℕ) (rules : Rules) (marks : Marks W) (kept₀ : Kept W L H G E) (log₀ : List ℕ) (entries₀ : ℕ)
-    (kept : Kept W L H G E) (log : List ℕ) (entries rest : ℕ) : Type 0 where
+pub record Going (word from size birthdate : ℕ) (rules : Rules) (marks : Marks) (more : List ℕ) (kept₀ : Kept) (all₀ keys₀ rests₀ ends₀ added₀ log₀ : List ℕ) (entries₀ : ℕ)
+    (kept : Kept) (all keys rests ends added log : List ℕ) (entries rest : ℕ) : Type 0 where
   pub room : entries ≤ size
+  pub lined : kept.lines ≤ length keys₀
   pub logs : length log ≡ length log₀
   pub place : ℕ
   pub after : from ≤ place
@@ -47,16 +48,17 @@ pub record Going {W L H G E : ℕ} (word from size birthdate : ℕ) (rules : Rul
   pub same : (s : ℕ) → place ≤ from + s → has rest s ≡ has word s
   pub none : (s : ℕ) → from + s < place → has rest s ≡ false
   pub gone : (el : List ℕ) (g : PushdownGame) (old es : List Entry) (i : ℕ) (now : List Entry)
-      → GroundOf el g old es i rules marks
+      → GroundOf el g old es i rules marks more
       → ((r : Rule) → r ∈ g.rules → (s : ℕ) → s < 64 → r.number ≡ from + s → has word s ≡ false → (z : ℕ) → RuleEnds g es r z → RuleBefore g old i r z)
-      → RulesHeld el g old es i birthdate now from rules kept₀ log₀ entries₀
-      → RulesHeld el g old es i birthdate now place rules kept log entries
+      → RulesHeld el g old es i birthdate now from rules kept₀ all₀ keys₀ rests₀ ends₀ added₀ log₀ entries₀
+      → RulesHeld el g old es i birthdate now place rules kept all keys rests ends added log entries
 
-module _ {W L H G E : ℕ} {word from size birthdate : ℕ} {rules : Rules} {marks : Marks W} {kept₀ : Kept W L H G E} {log₀ : List ℕ} {entries₀ : ℕ} where
-  pub going-starts : entries₀ ≤ size → Going word from size birthdate rules marks kept₀ log₀ entries₀ kept₀ log₀ entries₀ word
-  going-starts le =
+module _ {word from size birthdate : ℕ} {rules : Rules} {marks : Marks} {more : List ℕ} {kept₀ : Kept} {all₀ keys₀ rests₀ ends₀ added₀ log₀ : List ℕ} {entries₀ : ℕ} where
+  pub going-starts : entries₀ ≤ size → kept₀.lines ≤ length keys₀ → Going word from size birthdate rules marks more kept₀ all₀ keys₀ rests₀ ends₀ added₀ log₀ entries₀ kept₀ all₀ keys₀ rests₀ ends₀ added₀ log₀ entries₀ word
+  going-starts le ll =
       record {
         room = le;
+        lined = ll;
         logs = refl;
         place = from;
         after = omega arith;
@@ -66,14 +68,14 @@ module _ {W L H G E : ℕ} {word from size birthdate : ℕ} {rules : Rules} {mar
         gone = λ el g old es i now gr off to. to;
       }
 
-  module _ {kept : Kept W L H G E} {log : List ℕ} {entries rest : ℕ}
-      (w : Going word from size birthdate rules marks kept₀ log₀ entries₀ kept log entries rest) where
+  module _ {kept : Kept} {all keys rests ends added log : List ℕ} {entries rest : ℕ}
+      (w : Going word from size birthdate rules marks more kept₀ all₀ keys₀ rests₀ ends₀ added₀ log₀ entries₀ kept all keys rests ends added log entries rest) where
     -- the rules up to one that none of the bits left comes before
     reached : (k : ℕ) → w.place ≤ k → ((s : ℕ) → s < 64 → from + s < k → has rest s ≡ false) → (el : List ℕ) (g : PushdownGame) (old es : List Entry) (i : ℕ) (now : List Entry)
-        → GroundOf el g old es i rules marks → ((r : Rule) → r ∈ g.rules → r.number < k → r.number < from + 64)
+        → GroundOf el g old es i rules marks more → ((r : Rule) → r ∈ g.rules → r.number < k → r.number < from + 64)
         → ((r : Rule) → r ∈ g.rules → (s : ℕ) → s < 64 → r.number ≡ from + s → has word s ≡ false → (z : ℕ) → RuleEnds g es r z → RuleBefore g old i r z)
-        → RulesHeld el g old es i birthdate now from rules kept₀ log₀ entries₀
-        → RulesHeld el g old es i birthdate now k rules kept log entries
+        → RulesHeld el g old es i birthdate now from rules kept₀ all₀ keys₀ rests₀ ends₀ added₀ log₀ entries₀
+        → RulesHeld el g old es i birthdate now k rules kept all keys rests ends added log entries
     reached k l clear el g old es i now gr low off to =
         pass gr w.place k (w.gone el g old es i now gr off to) l
         (λ r m at lk.
@@ -88,10 +90,10 @@ module _ {W L H G E : ℕ} {word from size birthdate : ℕ} {rules : Rules} {mar
 
       -- no bit is left for a rule
       pub going-past : rules.sizes.rulecount ≤ from + s → (el : List ℕ) (g : PushdownGame) (old es : List Entry) (i : ℕ) (now : List Entry)
-          → GroundOf el g old es i rules marks
+          → GroundOf el g old es i rules marks more
           → ((r : Rule) → r ∈ g.rules → (s : ℕ) → s < 64 → r.number ≡ from + s → has word s ≡ false → (z : ℕ) → RuleEnds g es r z → RuleBefore g old i r z)
-          → RulesHeld el g old es i birthdate now from rules kept₀ log₀ entries₀
-          → RulesDone el g old es i birthdate size now (from + 64) rules kept log entries
+          → RulesHeld el g old es i birthdate now from rules kept₀ all₀ keys₀ rests₀ ends₀ added₀ log₀ entries₀
+          → RulesDone el g old es i birthdate size now (from + 64) rules kept all keys rests ends added log entries
       going-past past el g old es i now gr off to =
           let here = reached (from + s) above (λ t lt l. lowest.below t (omega (arith, l))) el g old es i now gr (λ r m l. omega (arith, l, lowest.small)) off to in
           inr (
@@ -100,24 +102,25 @@ module _ {W L H G E : ℕ} {word from size birthdate : ℕ} {rules : Rules} {mar
                 (λ r m l lk. absurd (omega (arith, l, past, subst (λ (k : ℕ). r.number < k) (sym gr.owned.counted) (rule-same g gr.good.ranged m).0))),
           )
 
-      module _ (kept' : Kept W L H G E) {log' : List ℕ} {entries' : ℕ}
+      module _ (kept' : Kept) {all' keys' rests' ends' added' log' : List ℕ} {entries' : ℕ}
           (turn : (el : List ℕ) (g : PushdownGame) (old es : List Entry) (i : ℕ) (now : List Entry)
-          → GroundOf el g old es i rules marks
-          → RulesHeld el g old es i birthdate now (from + s) rules kept log entries
-          → RulesDone el g old es i birthdate size now (suc (from + s)) rules kept' log' entries') where
+          → GroundOf el g old es i rules marks more
+          → RulesHeld el g old es i birthdate now (from + s) rules kept all keys rests ends added log entries
+          → RulesDone el g old es i birthdate size now (suc (from + s)) rules kept' all' keys' rests' ends' added' log' entries') where
         turned : (el : List ℕ) (g : PushdownGame) (old es : List Entry) (i : ℕ) (now : List Entry)
-            → GroundOf el g old es i rules marks
+            → GroundOf el g old es i rules marks more
             → ((r : Rule) → r ∈ g.rules → (s : ℕ) → s < 64 → r.number ≡ from + s → has word s ≡ false → (z : ℕ) → RuleEnds g es r z → RuleBefore g old i r z)
-            → RulesHeld el g old es i birthdate now from rules kept₀ log₀ entries₀
-            → RulesDone el g old es i birthdate size now (suc (from + s)) rules kept' log' entries'
+            → RulesHeld el g old es i birthdate now from rules kept₀ all₀ keys₀ rests₀ ends₀ added₀ log₀ entries₀
+            → RulesDone el g old es i birthdate size now (suc (from + s)) rules kept' all' keys' rests' ends' added' log' entries'
         turned el g old es i now gr off to =
             turn el g old es i now gr (reached (from + s) above (λ t lt l. lowest.below t (omega (arith, l))) el g old es i now gr (λ r m l. omega (arith, l, lowest.small)) off to)
 
-        pub going_on : entries' ≤ size → length log' ≡ length log
-            → Going word from size birthdate rules marks kept₀ log₀ entries₀ kept' log' entries' (bit_and rest (rest - 1))
-        going_on fits ll =
+        pub going_on : entries' ≤ size → kept'.lines ≤ length keys → length keys ≡ length keys₀ → length log' ≡ length log
+            → Going word from size birthdate rules marks more kept₀ all₀ keys₀ rests₀ ends₀ added₀ log₀ entries₀ kept' all' keys' rests' ends' added' log' entries' (bit_and rest (rest - 1))
+        going_on fits ln lk ll =
             record {
               room = fits;
+              lined = omega (arith, ln, lk);
               logs = ll ∙ w.logs;
               place = suc (from + s);
               after = omega arith;
@@ -135,38 +138,39 @@ module _ {W L H G E : ℕ} {word from size birthdate : ℕ} {rules : Rules} {mar
             gone' = cleared s rest some lowest.member lowest.below
 
         pub going-full : size < entries' → (el : List ℕ) (g : PushdownGame) (old es : List Entry) (i : ℕ) (now : List Entry)
-            → GroundOf el g old es i rules marks
+            → GroundOf el g old es i rules marks more
             → ((r : Rule) → r ∈ g.rules → (s : ℕ) → s < 64 → r.number ≡ from + s → has word s ≡ false → (z : ℕ) → RuleEnds g es r z → RuleBefore g old i r z)
-            → RulesHeld el g old es i birthdate now from rules kept₀ log₀ entries₀
-            → RulesDone el g old es i birthdate size now (from + 64) rules kept' log' entries'
+            → RulesHeld el g old es i birthdate now from rules kept₀ all₀ keys₀ rests₀ ends₀ added₀ log₀ entries₀
+            → RulesDone el g old es i birthdate size now (from + 64) rules kept' all' keys' rests' ends' added' log' entries'
         going-full beyond el g old es i now gr off to = ⊎_elim inl (λ k. absurd (omega (arith, k.0, beyond))) (turned el g old es i now gr off to)
 
     pub going-ends : rest ≡ 0 → (el : List ℕ) (g : PushdownGame) (old es : List Entry) (i : ℕ) (now : List Entry)
-        → GroundOf el g old es i rules marks
+        → GroundOf el g old es i rules marks more
         → ((r : Rule) → r ∈ g.rules → (s : ℕ) → s < 64 → r.number ≡ from + s → has word s ≡ false → (z : ℕ) → RuleEnds g es r z → RuleBefore g old i r z)
-        → RulesHeld el g old es i birthdate now from rules kept₀ log₀ entries₀
-        → RulesDone el g old es i birthdate size now (from + 64) rules kept log entries
+        → RulesHeld el g old es i birthdate now from rules kept₀ all₀ keys₀ rests₀ ends₀ added₀ log₀ entries₀
+        → RulesDone el g old es i birthdate size now (from + 64) rules kept all keys rests ends added log entries
     going-ends empty el g old es i now gr off to =
         inr (w.room, reached (from + 64) w.below (λ t lt l. ap (λ (k : ℕ). has k t) empty ∙ none_has t) el g old es i now gr (λ r m l. l) off to)
 
 -- the words of marks before w are passed
-pub record Wording {W L H G E : ℕ} (active : List ℕ) (size birthdate : ℕ) (rules : Rules) (marks : Marks W) (kept₀ : Kept W L H G E) (log₀ : List ℕ) (entries₀ : ℕ)
-    (kept : Kept W L H G E) (log : List ℕ) (entries w : ℕ) : Type 0 where
+pub record Wording (active : List ℕ) (size birthdate : ℕ) (rules : Rules) (marks : Marks) (more : List ℕ) (kept₀ : Kept) (all₀ keys₀ rests₀ ends₀ added₀ log₀ : List ℕ) (entries₀ : ℕ)
+    (kept : Kept) (all keys rests ends added log : List ℕ) (entries w : ℕ) : Type 0 where
   pub room : entries ≤ size
+  pub lined : kept.lines ≤ length keys₀
   pub logs : length log ≡ length log₀
   pub below : w ≤ 4
   pub gone : (el : List ℕ) (g : PushdownGame) (old es : List Entry) (i : ℕ) (now : List Entry)
-      → GroundOf el g old es i rules marks
+      → GroundOf el g old es i rules marks more
       → Unmoved g old es i active
-      → RulesHeld el g old es i birthdate now 0 rules kept₀ log₀ entries₀
-      → RulesHeld el g old es i birthdate now (w * 64) rules kept log entries
+      → RulesHeld el g old es i birthdate now 0 rules kept₀ all₀ keys₀ rests₀ ends₀ added₀ log₀ entries₀
+      → RulesHeld el g old es i birthdate now (w * 64) rules kept all keys rests ends added log entries
 
-module _ {active : List ℕ} {W L H G E : ℕ} {size birthdate : ℕ} {rules : Rules} {marks : Marks W} {kept₀ : Kept W L H G E} {log₀ : List ℕ} {entries₀ : ℕ} where
-  pub wording-starts : entries₀ ≤ size → Wording active size birthdate rules marks kept₀ log₀ entries₀ kept₀ log₀ entries₀ 0
-  wording-starts le = record { room = le; logs = refl; below = omega arith; gone = λ el g old es i now gr off to. to }
+module _ {active : List ℕ} {size birthdate : ℕ} {rules : Rules} {marks : Marks} {more : List ℕ} {kept₀ : Kept} {all₀ keys₀ rests₀ ends₀ added₀ log₀ : List ℕ} {entries₀ : ℕ} where
+  pub wording-starts : entries₀ ≤ size → kept₀.lines ≤ length keys₀ → Wording active size birthdate rules marks more kept₀ all₀ keys₀ rests₀ ends₀ added₀ log₀ entries₀ kept₀ all₀ keys₀ rests₀ ends₀ added₀ log₀ entries₀ 0
+  wording-starts le ll = record { room = le; lined = ll; logs = refl; below = omega arith; gone = λ el g old es i now gr off to. to }
 
-  module _ {kept : Kept W L H G E} {log : List ℕ} {entries w : ℕ}
-      (k : Wording active size birthdate rules marks kept₀ log₀ entries₀ kept log entries w) where
+  module _ {kept : Kept} {all keys rests ends added log : List ℕ} {entries w : ℕ}
+      (k : Wording active size birthdate rules marks more kept₀ all₀ keys₀ rests₀ ends₀ added₀ log₀ entries₀ kept all keys rests ends added log entries w) where
     unmoved-word : (g : PushdownGame) (old es : List Entry) (i : ℕ) → Unmoved g old es i active → (r : Rule) → r ∈ g.rules → (s : ℕ) → s < 64 → r.number ≡ w * 64 + s → has (get_or active w 0) s ≡ false
         → (z : ℕ) → RuleEnds g es r z → RuleBefore g old i r z
     unfolding holds
@@ -176,44 +180,45 @@ module _ {active : List ℕ} {W L H G E : ℕ} {size birthdate : ℕ} {rules : R
         ∙ ap (λ (x : ℕ). has (get_or active x 0) ((w * 64 + s) % 64)) (omega (arith, l))
         ∙ ap (has (get_or active w 0)) (omega (arith, l)) ∙ h)
 
-    module _ (kept' : Kept W L H G E) {log' : List ℕ} {entries' : ℕ}
+    module _ (kept' : Kept) {all' keys' rests' ends' added' log' : List ℕ} {entries' : ℕ}
         (turn : (el : List ℕ) (g : PushdownGame) (old es : List Entry) (i : ℕ) (now : List Entry)
-        → GroundOf el g old es i rules marks
+        → GroundOf el g old es i rules marks more
         → ((r : Rule) → r ∈ g.rules → (s : ℕ) → s < 64 → r.number ≡ w * 64 + s → has (get_or active w 0) s ≡ false → (z : ℕ) → RuleEnds g es r z → RuleBefore g old i r z)
-        → RulesHeld el g old es i birthdate now (w * 64) rules kept log entries
-        → RulesDone el g old es i birthdate size now (w * 64 + 64) rules kept' log' entries') where
+        → RulesHeld el g old es i birthdate now (w * 64) rules kept all keys rests ends added log entries
+        → RulesDone el g old es i birthdate size now (w * 64 + 64) rules kept' all' keys' rests' ends' added' log' entries') where
       turned-word : (el : List ℕ) (g : PushdownGame) (old es : List Entry) (i : ℕ) (now : List Entry)
-          → GroundOf el g old es i rules marks
+          → GroundOf el g old es i rules marks more
           → Unmoved g old es i active
-          → RulesHeld el g old es i birthdate now 0 rules kept₀ log₀ entries₀
-          → RulesDone el g old es i birthdate size now (w * 64 + 64) rules kept' log' entries'
+          → RulesHeld el g old es i birthdate now 0 rules kept₀ all₀ keys₀ rests₀ ends₀ added₀ log₀ entries₀
+          → RulesDone el g old es i birthdate size now (w * 64 + 64) rules kept' all' keys' rests' ends' added' log' entries'
       turned-word el g old es i now gr off to = turn el g old es i now gr (unmoved-word g old es i off) (k.gone el g old es i now gr off to)
 
-      pub wording-on : w < 4 → entries' ≤ size → length log' ≡ length log
-          → Wording active size birthdate rules marks kept₀ log₀ entries₀ kept' log' entries' (w + 1)
-      wording-on lw fits ll =
+      pub wording-on : w < 4 → entries' ≤ size → kept'.lines ≤ length keys → length keys ≡ length keys₀ → length log' ≡ length log
+          → Wording active size birthdate rules marks more kept₀ all₀ keys₀ rests₀ ends₀ added₀ log₀ entries₀ kept' all' keys' rests' ends' added' log' entries' (w + 1)
+      wording-on lw fits ln lk ll =
           record {
             room = fits;
+            lined = omega (arith, ln, lk);
             logs = ll ∙ k.logs;
             below = omega arith;
             gone =
                 λ el g old es i now gr off to.
                 ⊎_elim (λ c. absurd (omega (arith, c.0, fits)))
-                (λ c. subst (λ (m : ℕ). RulesHeld el g old es i birthdate now m rules kept' log' entries') (omega arith) c.1)
+                (λ c. subst (λ (m : ℕ). RulesHeld el g old es i birthdate now m rules kept' all' keys' rests' ends' added' log' entries') (omega arith) c.1)
                 (turned-word el g old es i now gr off to);
           }
 
       pub wording-full : size < entries' → (el : List ℕ) (g : PushdownGame) (old es : List Entry) (i : ℕ) (now : List Entry)
-          → GroundOf el g old es i rules marks
+          → GroundOf el g old es i rules marks more
           → Unmoved g old es i active
-          → RulesHeld el g old es i birthdate now 0 rules kept₀ log₀ entries₀
-          → RulesDone el g old es i birthdate size now rules.sizes.rulecount rules kept' log' entries'
+          → RulesHeld el g old es i birthdate now 0 rules kept₀ all₀ keys₀ rests₀ ends₀ added₀ log₀ entries₀
+          → RulesDone el g old es i birthdate size now rules.sizes.rulecount rules kept' all' keys' rests' ends' added' log' entries'
       wording-full beyond el g old es i now gr off to = ⊎_elim inl (λ c. absurd (omega (arith, c.0, beyond))) (turned-word el g old es i now gr off to)
 
     pub wording-ends : 4 ≤ w → rules.sizes.rulecount ≤ 256 → (el : List ℕ) (g : PushdownGame) (old es : List Entry) (i : ℕ) (now : List Entry)
-        → GroundOf el g old es i rules marks
+        → GroundOf el g old es i rules marks more
         → Unmoved g old es i active
-        → RulesHeld el g old es i birthdate now 0 rules kept₀ log₀ entries₀
-        → RulesDone el g old es i birthdate size now rules.sizes.rulecount rules kept log entries
+        → RulesHeld el g old es i birthdate now 0 rules kept₀ all₀ keys₀ rests₀ ends₀ added₀ log₀ entries₀
+        → RulesDone el g old es i birthdate size now rules.sizes.rulecount rules kept all keys rests ends added log entries
     wording-ends done few el g old es i now gr off to =
         inr (k.room, back gr (w * 64) rules.sizes.rulecount (k.gone el g old es i now gr off to) (let b = k.below in omega (arith, done, few)) (λ r m. subst (λ (c : ℕ). r.number < c) (sym gr.owned.counted) (rule-same g gr.good.ranged m).0))

@@ -22,7 +22,7 @@ use unions::lowest_set;
 // The heads of every control state. How many entries there are, if they fit.
 #[inline(always)]
 pub fn take_heads(
-    rules: &Rules<'_>,
+    rules: &Rules<'_, '_>,
     ends: &[u64],
     stirred: &[u64],
     all: &[u64],
@@ -55,7 +55,7 @@ pub fn take_heads(
 // The heads of state p that are marked in a word, the lowest letter first: none, if it is Éloise's.
 #[inline(always)]
 fn take_row(
-    rules: &Rules<'_>,
+    rules: &Rules<'_, '_>,
     p: usize,
     word: u64,
     ends: &[u64],
@@ -110,7 +110,7 @@ fn take_row(
 
 // Head (p, a) of Abelard's, by its number too. Each head has a rule, so that the chain from its first one on is not empty.
 fn take_head(
-    rules: &Rules<'_>,
+    rules: &Rules<'_, '_>,
     p: usize,
     a: usize,
     head: usize,
@@ -160,7 +160,7 @@ fn take_head(
 }
 
 // The unions of one set for each rule, from rule `first` of a head on.
-fn unite_rules(rules: &Rules<'_>, ends: &[u64], first: usize, sets: &mut [u64])
+fn unite_rules(rules: &Rules<'_, '_>, ends: &[u64], first: usize, sets: &mut [u64])
     requires { (rules.now.sizes.rulecount * rules.now.frame.n ≤ length ends.now) × (first < rules.now.sizes.rulecount) × (16 ≤ length sets.old) }
     ensures all_of { Raising rules.now.frame.raising.now → (el : List ℕ) (states : ℕ) (f : ℕ → List ℕ) (chain : List ℕ) → Elements el states → ((x : ℕ) → x < 2 ^ length el → x / 64 < rules.now.frame.n)
         → Chain rules.now.sizes.rulecount rules.now.nexts.now first chain → EndsOf el rules.now.frame.n ends.now f chain → AllOf el rules.now.frame.n f chain sets.new }

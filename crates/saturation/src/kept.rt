@@ -4,17 +4,21 @@ ghost use Rattle.unions.specs.Ending.{RuleFits};
 ghost use Rattle.saturation.specs.RuleLinks.{Climbs};
 
 use game::Sizes;
-use unions::{Families, Frame};
+use unions::Frame;
 
-// A game's rules as bytes, the first rule of each head and the next of each rule, and the rules by what they read.
+// Each state's number as a set of elements, a game's rules as bytes, the first rule of each head and the next of each rule, and the rules
+// by what they read.
 #[derive(Drop)]
-pub struct Rules<'a> {
-    pub frame: Frame,
+pub struct Rules<'a, 'b> {
+    pub frame: Frame<'b>,
+    pub numbers: [usize; 32],
     pub sizes: Sizes,
     pub bytes: &'a [u8],
     pub firsts: &'a [usize],
     pub nexts: &'a [usize],
     pub readers: &'a [u64],
+    ghost wide: { length numbers ≡ 32 },
+    ghost small: { (q : ℕ) → q < 32 → get_or numbers q 0 < 1024 },
     ghost lettered: { sizes.letters ≡ frame.letters },
     ghost ruled: { (r : ℕ) → r < sizes.rulecount → RuleFits bytes.now frame.letters frame.heads r },
     ghost headed: { (r : ℕ) → r < sizes.rulecount → get_or bytes.now (r * 6) 0 * frame.letters + get_or bytes.now (r * 6 + 1) 0 < frame.heads },
@@ -31,23 +35,13 @@ pub struct Rules<'a> {
     ghost reading: { length readers.now ≡ 644 },
 }
 
-// The families, what the heads were given in the round, the ends of each rule of Abelard's, and of each state the letters whose heads
-// were given something, and those whose heads have a rule with more ends.
+// How many lines there are, and of each state the letters whose heads were given something in the round, and those whose heads have a
+// rule with more ends.
 #[derive(Drop)]
-pub struct Kept<
-    const WORDS: usize,
-    const LINES: usize,
-    const HINTS: usize,
-    const GIVEN: usize,
-    const ENDS: usize,
-> {
-    pub families: Families<WORDS, LINES, HINTS>,
-    pub added: [u64; GIVEN],
-    pub ends: [u64; ENDS],
+pub struct Kept {
+    pub lines: usize,
     pub gains: [u64; 32],
     pub stirred: [u64; 32],
-    ghost adds: { length added ≡ GIVEN },
-    ghost ending: { length ends ≡ ENDS },
     ghost gaining: { length gains ≡ 32 },
     ghost stirring: { length stirred ≡ 32 },
 }

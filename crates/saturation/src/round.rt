@@ -15,42 +15,50 @@ use family::clear_at;
 use noting::{Marks, close_heads, find_active};
 use unions::renew_lines;
 
-// How many entries there are afterwards; nothing where they do not fit.
-pub fn take_round<
-    const WORDS: usize,
-    const LINES: usize,
-    const HINTS: usize,
-    const GIVEN: usize,
-    const ENDS: usize,
->(
-    rules: &Rules<'_>,
-    marks: &mut Marks<WORDS>,
-    kept: &mut Kept<WORDS, LINES, HINTS, GIVEN, ENDS>,
+// How many entries there are afterwards; nothing where they do not fit. The areas are of any length that has room: `all` has the families
+// of the heads and, after them, of the lines, and `more` what each has more than before; of each line `keys` has the set and letter and
+// `rests` the family of the set without its lowest element; `hints` has for each set where its line may be found; `ends` the ends of each
+// rule of Abelard's; and `added` what the heads were given in the round.
+pub fn take_round(
+    rules: &Rules<'_, '_>,
+    marks: &mut Marks,
+    kept: &mut Kept,
+    all: &mut [u64],
+    more: &mut [u64],
+    keys: &mut [u32],
+    rests: &mut [u32],
+    hints: &mut [u32],
+    ends: &mut [u64],
+    added: &mut [u64],
     log: &mut [u32],
     size: usize,
     birthdate: u32,
     before: usize,
 ) -> Option<usize>
-    requires { Room rules.now.frame.heads rules.now.frame.n rules.now.sizes.rulecount WORDS LINES GIVEN ENDS × (size * 3 ≤ length log.old) × (size ≤ 2048)
-        × (before ≤ size) × (birthdate < 65536) }
+    requires { Room rules.now.frame.heads rules.now.frame.n rules.now.sizes.rulecount (length all.old) (length more.old) (length keys.old) (length rests.old) (length hints.old) (length ends.old)
+        (length added.old) × (size * 3 ≤ length log.old) × (size ≤ 2048) × (before ≤ size) × (kept.old.lines ≤ length keys.old) × (birthdate < 65536) }
     ensures by_index { (el : List ℕ) (g : PushdownGame) (old es : List Entry) (i : ℕ) → rules.now.sizes.control ≡ g.control → rules.now.sizes.states ≡ g.states → birthdate ≡ suc i
         → Reads rules.now.bytes.now rules.now.sizes.rulecount rules.now.readers.now
         → Linked rules.now.bytes.now rules.now.sizes.rulecount rules.now.frame.letters rules.now.sizes.control rules.now.firsts.now rules.now.nexts.now
-        → Rested el g old es i rules.now marks.old kept.old log.old kept.old.families.count before
-        → Taken el g es i birthdate size rules.now marks.new kept.new log.new kept.new.families.count (counted size result) }
+        → Rested el g old es i rules.now marks.old all.old more.old keys.old rests.old ends.old added.old log.old kept.old.lines before
+        → Taken el g es i birthdate size rules.now marks.new all.new more.new keys.new rests.new ends.new added.new log.new kept.new.lines (counted size result) }
     ensures upper_bound { IfSome result (λ k. k ≤ size) }
+    ensures lines_bound { kept.new.lines ≤ length keys.old }
 {
-    let entries = note_round(rules, marks, kept, log, size, birthdate, before)?;
+    let entries = note_round(
+        rules, marks, kept, all, more, keys, rests, hints, ends, added, log, size, birthdate,
+        before,
+    )?;
     close_heads(
         rules.sizes.control as usize,
         rules.sizes.states as usize,
         rules.frame.letters,
-        &rules.frame.numbers,
+        &rules.numbers,
         rules.frame.heads,
         rules.frame.n,
-        &mut kept.families.all,
-        &mut marks.more,
-        &mut kept.added,
+        all,
+        more,
+        added,
         &mut marks.fresh,
         &mut marks.alive,
         &mut marks.news,
@@ -60,39 +68,41 @@ pub fn take_round<
 }
 
 // All that the runs give, noted.
-fn note_round<
-    const WORDS: usize,
-    const LINES: usize,
-    const HINTS: usize,
-    const GIVEN: usize,
-    const ENDS: usize,
->(
-    rules: &Rules<'_>,
-    marks: &mut Marks<WORDS>,
-    kept: &mut Kept<WORDS, LINES, HINTS, GIVEN, ENDS>,
+fn note_round(
+    rules: &Rules<'_, '_>,
+    marks: &mut Marks,
+    kept: &mut Kept,
+    all: &mut [u64],
+    more: &mut [u64],
+    keys: &mut [u32],
+    rests: &mut [u32],
+    hints: &mut [u32],
+    ends: &mut [u64],
+    added: &mut [u64],
     log: &mut [u32],
     size: usize,
     birthdate: u32,
     before: usize,
 ) -> Option<usize>
-    requires { Room rules.now.frame.heads rules.now.frame.n rules.now.sizes.rulecount WORDS LINES GIVEN ENDS × (size * 3 ≤ length log.old) × (size ≤ 2048)
-        × (before ≤ size) × (birthdate < 65536) }
+    requires { Room rules.now.frame.heads rules.now.frame.n rules.now.sizes.rulecount (length all.old) (length more.old) (length keys.old) (length rests.old) (length hints.old) (length ends.old)
+        (length added.old) × (size * 3 ≤ length log.old) × (size ≤ 2048) × (before ≤ size) × (kept.old.lines ≤ length keys.old) × (birthdate < 65536) }
     ensures by_index { (el : List ℕ) (g : PushdownGame) (old es : List Entry) (i : ℕ) → rules.now.sizes.control ≡ g.control → rules.now.sizes.states ≡ g.states → birthdate ≡ suc i
         → Reads rules.now.bytes.now rules.now.sizes.rulecount rules.now.readers.now
         → Linked rules.now.bytes.now rules.now.sizes.rulecount rules.now.frame.letters rules.now.sizes.control rules.now.firsts.now rules.now.nexts.now
-        → Rested el g old es i rules.now marks.old kept.old log.old kept.old.families.count before
-        → NotedIn el g old es i birthdate size rules.now marks.new kept.new log.new kept.new.families.count (counted size result) }
+        → Rested el g old es i rules.now marks.old all.old more.old keys.old rests.old ends.old added.old log.old kept.old.lines before
+        → NotedIn el g old es i birthdate size rules.now marks.new kept.new all.new more.new keys.new rests.new ends.new added.new log.new (counted size result) }
     ensures upper_bound { IfSome result (λ k. k ≤ size) }
+    ensures lines_bound { kept.new.lines ≤ length keys.old }
     ensures unchanged { (marks.new.fresh ≡ marks.old.fresh) × (marks.new.alive ≡ marks.old.alive) × (marks.new.news ≡ marks.old.news) }
 {
     clear_at(&mut kept.stirred, 0, 32);
     renew_lines(
         &rules.frame,
-        &mut kept.families.all,
-        &mut marks.more,
-        kept.families.count,
-        &kept.families.keys,
-        &kept.families.rests,
+        all,
+        more,
+        kept.lines,
+        keys,
+        rests,
         &marks.fresh,
     );
     let mut active = [0u64; 4];
@@ -106,13 +116,16 @@ fn note_round<
         &mut marks.held,
         &mut active,
     );
-    let offered = take_rules(&active, rules, marks, kept, log, size, birthdate, before)?;
+    let offered = take_rules(
+        &active, rules, marks, kept, all, more, keys, rests, hints, ends, added, log, size,
+        birthdate, before,
+    )?;
     take_heads(
         rules,
-        &kept.ends,
+        ends,
         &kept.stirred,
-        &kept.families.all,
-        &mut kept.added,
+        all,
+        added,
         &mut kept.gains,
         log,
         offered,

@@ -16,29 +16,31 @@ use noting::{Marks, give, keep_more};
 use unions::{lowest_set, more_of_rule};
 
 // Every rule that is marked in `active`. How many entries there are, if they fit.
-pub fn take_rules<
-    const WORDS: usize,
-    const LINES: usize,
-    const HINTS: usize,
-    const GIVEN: usize,
-    const ENDS: usize,
->(
+pub fn take_rules(
     active: &[u64; 4],
-    rules: &Rules<'_>,
-    marks: &Marks<WORDS>,
-    kept: &mut Kept<WORDS, LINES, HINTS, GIVEN, ENDS>,
+    rules: &Rules<'_, '_>,
+    marks: &Marks,
+    kept: &mut Kept,
+    all: &mut [u64],
+    more: &[u64],
+    keys: &mut [u32],
+    rests: &mut [u32],
+    hints: &mut [u32],
+    ends: &mut [u64],
+    added: &mut [u64],
     log: &mut [u32],
     size: usize,
     birthdate: u32,
     before: usize,
 ) -> Option<usize>
-    requires { Room rules.now.frame.heads rules.now.frame.n rules.now.sizes.rulecount WORDS LINES GIVEN ENDS × (size * 3 ≤ length log.old) × (size ≤ 2048)
-        × (before ≤ size) × (birthdate < 65536) }
-    ensures by_index { (el : List ℕ) (g : PushdownGame) (old es : List Entry) (i : ℕ) (now' : List Entry) → GroundOf el g old es i rules.now marks.now
+    requires { Room rules.now.frame.heads rules.now.frame.n rules.now.sizes.rulecount (length all.old) (length more.now) (length keys.old) (length rests.old) (length hints.old) (length ends.old)
+        (length added.old) × (size * 3 ≤ length log.old) × (size ≤ 2048) × (before ≤ size) × (kept.old.lines ≤ length keys.old) × (birthdate < 65536) }
+    ensures by_index { (el : List ℕ) (g : PushdownGame) (old es : List Entry) (i : ℕ) (now' : List Entry) → GroundOf el g old es i rules.now marks.now more.now
         → Unmoved g old es i active.now
-        → RulesHeld el g old es i birthdate now' 0 rules.now kept.old log.old before
-        → RulesDone el g old es i birthdate size now' rules.now.sizes.rulecount rules.now kept.new log.new (counted size result) }
+        → RulesHeld el g old es i birthdate now' 0 rules.now kept.old all.old keys.old rests.old ends.old added.old log.old before
+        → RulesDone el g old es i birthdate size now' rules.now.sizes.rulecount rules.now kept.new all.new keys.new rests.new ends.new added.new log.new (counted size result) }
     ensures upper_bound { IfSome result (λ k. k ≤ size) }
+    ensures lines_bound { kept.new.lines ≤ length keys.old }
 {
     let mut entries = before;
     for w in 0..4 {
@@ -48,6 +50,13 @@ pub fn take_rules<
             rules,
             marks,
             kept,
+            all,
+            more,
+            keys,
+            rests,
+            hints,
+            ends,
+            added,
             log,
             size,
             birthdate,
@@ -58,30 +67,32 @@ pub fn take_rules<
 }
 
 // The rules of a word of marks, the first of which is `from`.
-fn take_word<
-    const WORDS: usize,
-    const LINES: usize,
-    const HINTS: usize,
-    const GIVEN: usize,
-    const ENDS: usize,
->(
+fn take_word(
     word: u64,
     from: usize,
-    rules: &Rules<'_>,
-    marks: &Marks<WORDS>,
-    kept: &mut Kept<WORDS, LINES, HINTS, GIVEN, ENDS>,
+    rules: &Rules<'_, '_>,
+    marks: &Marks,
+    kept: &mut Kept,
+    all: &mut [u64],
+    more: &[u64],
+    keys: &mut [u32],
+    rests: &mut [u32],
+    hints: &mut [u32],
+    ends: &mut [u64],
+    added: &mut [u64],
     log: &mut [u32],
     size: usize,
     birthdate: u32,
     before: usize,
 ) -> Option<usize>
-    requires { Room rules.now.frame.heads rules.now.frame.n rules.now.sizes.rulecount WORDS LINES GIVEN ENDS × (size * 3 ≤ length log.old) × (size ≤ 2048)
-        × (before ≤ size) × (birthdate < 65536) × (from ≤ 192) }
-    ensures by_index { (el : List ℕ) (g : PushdownGame) (old es : List Entry) (i : ℕ) (now' : List Entry) → GroundOf el g old es i rules.now marks.now
+    requires { Room rules.now.frame.heads rules.now.frame.n rules.now.sizes.rulecount (length all.old) (length more.now) (length keys.old) (length rests.old) (length hints.old) (length ends.old)
+        (length added.old) × (size * 3 ≤ length log.old) × (size ≤ 2048) × (before ≤ size) × (kept.old.lines ≤ length keys.old) × (birthdate < 65536) × (from ≤ 192) }
+    ensures by_index { (el : List ℕ) (g : PushdownGame) (old es : List Entry) (i : ℕ) (now' : List Entry) → GroundOf el g old es i rules.now marks.now more.now
         → ((r : Rule) → r ∈ g.rules → (s : ℕ) → s < 64 → r.number ≡ from + s → has word s ≡ false → (z : ℕ) → RuleEnds g es r z → RuleBefore g old i r z)
-        → RulesHeld el g old es i birthdate now' from rules.now kept.old log.old before
-        → RulesDone el g old es i birthdate size now' (from + 64) rules.now kept.new log.new (counted size result) }
+        → RulesHeld el g old es i birthdate now' from rules.now kept.old all.old keys.old rests.old ends.old added.old log.old before
+        → RulesDone el g old es i birthdate size now' (from + 64) rules.now kept.new all.new keys.new rests.new ends.new added.new log.new (counted size result) }
     ensures upper_bound { IfSome result (λ k. k ≤ size) }
+    ensures lines_bound { kept.new.lines ≤ length keys.old }
 {
     let mut entries = before;
     let mut rest = word;
@@ -90,35 +101,40 @@ fn take_word<
         if rules.sizes.rulecount <= r {
             return Some(entries);
         }
-        entries = take_rule(r, rules, marks, kept, log, size, birthdate, entries)?;
+        entries = take_rule(
+            r, rules, marks, kept, all, more, keys, rests, hints, ends, added, log, size,
+            birthdate, entries,
+        )?;
         rest = rest & (rest - 1);
     }
     Some(entries)
 }
 
 // Rule r. Where it is Éloise's and writes one letter, its ends have more what the head has more to which it leads.
-fn take_rule<
-    const WORDS: usize,
-    const LINES: usize,
-    const HINTS: usize,
-    const GIVEN: usize,
-    const ENDS: usize,
->(
+fn take_rule(
     r: usize,
-    rules: &Rules<'_>,
-    marks: &Marks<WORDS>,
-    kept: &mut Kept<WORDS, LINES, HINTS, GIVEN, ENDS>,
+    rules: &Rules<'_, '_>,
+    marks: &Marks,
+    kept: &mut Kept,
+    all: &mut [u64],
+    more: &[u64],
+    keys: &mut [u32],
+    rests: &mut [u32],
+    hints: &mut [u32],
+    ends: &mut [u64],
+    added: &mut [u64],
     log: &mut [u32],
     size: usize,
     birthdate: u32,
     before: usize,
 ) -> Option<usize>
-    requires { Room rules.now.frame.heads rules.now.frame.n rules.now.sizes.rulecount WORDS LINES GIVEN ENDS × (size * 3 ≤ length log.old) × (size ≤ 2048)
-        × (before ≤ size) × (birthdate < 65536) × (r < rules.now.sizes.rulecount) }
-    ensures by_index { (el : List ℕ) (g : PushdownGame) (old es : List Entry) (i : ℕ) (now' : List Entry) → GroundOf el g old es i rules.now marks.now
-        → RulesHeld el g old es i birthdate now' r rules.now kept.old log.old before
-        → RulesDone el g old es i birthdate size now' (suc r) rules.now kept.new log.new (counted size result) }
+    requires { Room rules.now.frame.heads rules.now.frame.n rules.now.sizes.rulecount (length all.old) (length more.now) (length keys.old) (length rests.old) (length hints.old) (length ends.old)
+        (length added.old) × (size * 3 ≤ length log.old) × (size ≤ 2048) × (before ≤ size) × (kept.old.lines ≤ length keys.old) × (birthdate < 65536) × (r < rules.now.sizes.rulecount) }
+    ensures by_index { (el : List ℕ) (g : PushdownGame) (old es : List Entry) (i : ℕ) (now' : List Entry) → GroundOf el g old es i rules.now marks.now more.now
+        → RulesHeld el g old es i birthdate now' r rules.now kept.old all.old keys.old rests.old ends.old added.old log.old before
+        → RulesDone el g old es i birthdate size now' (suc r) rules.now kept.new all.new keys.new rests.new ends.new added.new log.new (counted size result) }
     ensures upper_bound { IfSome result (λ k. k ≤ size) }
+    ensures lines_bound { kept.new.lines ≤ length keys.old }
 {
     let n = rules.frame.n;
     let letters = rules.frame.letters;
@@ -130,16 +146,15 @@ fn take_rule<
     let first = first_of(bytes[at], bytes[at + 1], birthdate);
     if is_direct(abelard, bytes[at], bytes[at + 3]) {
         let head = usize::from(bytes[at + 2]) * letters + usize::from(bytes[at + 4]);
-        let added = &mut kept.added;
         return give(
-            &marks.more,
+            more,
             head * n,
             p,
             a,
             p * letters + a,
             n,
-            &kept.families.all,
-            &mut added[..],
+            all,
+            added,
             &mut kept.gains,
             log,
             before,
@@ -148,35 +163,36 @@ fn take_rule<
             (r as u32) + 1,
         );
     }
-    let mut more = [0u64; 16];
+    let mut found = [0u64; 16];
     let lines = more_of_rule(
-        &mut more,
+        &mut found,
         r,
         bytes,
         &rules.frame,
-        &mut kept.families.all,
-        &marks.more,
-        kept.families.count,
-        &mut kept.families.keys,
-        &mut kept.families.rests,
-        &mut kept.families.hints,
+        &rules.numbers,
+        all,
+        more,
+        kept.lines,
+        keys,
+        rests,
+        hints,
         &marks.fresh,
         &marks.alive,
     );
-    kept.families.count = lines;
+    kept.lines = lines;
     if has_state(abelard, bytes[at]) {
-        keep_more(&mut kept.ends, r * n, &more, n, &mut kept.stirred, p, a);
+        keep_more(ends, r * n, &found, n, &mut kept.stirred, p, a);
         return Some(before);
     }
     give(
-        &more,
+        &found,
         0,
         p,
         a,
         p * letters + a,
         n,
-        &kept.families.all,
-        &mut kept.added,
+        all,
+        added,
         &mut kept.gains,
         log,
         before,

@@ -50,11 +50,11 @@ pub record Bounded (sizes : Sizes) (rules targets : List ℕ) : Type 0 where
   pub targets-fit : sizes.targetcount * 3 ≤ length targets
 
 -- the heads' families have room
-pub room-in : {heads n rulecount words lines given ends : ℕ} → Room heads n rulecount words lines given ends → heads * n ≤ words
-room-in {heads} {n} {lines = lines} ro = omega (arith, ro.area, mul-le-mul_right n (more heads lines))
+pub room-in : {heads n rulecount all more keys rests hints ends added : ℕ} → Room heads n rulecount all more keys rests hints ends added → heads * n ≤ all
+room-in {heads} {n} {keys = keys} ro = omega (arith, ro.area, mul-le-mul_right n (above heads keys))
   where
-    more : (x y : ℕ) → x ≤ x + y
-    more x y = omega arith
+    above : (x y : ℕ) → x ≤ x + y
+    above x y = omega arith
 
 -- arrays for families of a words in all, of at most w words each, and for k lines
 pub rooms-of : (w a k h : ℕ) {heads n words given ends : ℕ} → heads ≤ 2048 → n ≤ w → w ≤ 16 → heads * n ≤ a → words ≡ a + k * w → given ≡ a → ends ≡ 256 * w → 10 ≤ k → k ≤ 2048
@@ -208,8 +208,19 @@ module _ {g : PushdownGame} {sizes : Sizes} {rules targets : List ℕ} (given : 
       omega (arith, ap (λ (x : Rule). x.top) bytes, sound.top, lettered, bounded.letters-few),
     )
 
-  pub room-of : {heads n words lines hints given ends : ℕ} → Rooms heads n words lines hints given ends → Room heads n sizes.rulecount words lines given ends
-  room-of {n = n} ro = record { area = ro.area; giving = ro.giving; ended = omega (arith, ro.ended, mul-le-mul_right n bounded.rules-few) }
+  pub room-of : {heads n words lines hints given ends : ℕ} → Rooms heads n words lines hints given ends → Room heads n sizes.rulecount words words lines lines hints ends given
+  room-of {n = n} ro =
+      record {
+        area = ro.area;
+        alike = refl;
+        some = ro.some;
+        most = ro.most;
+        same = refl;
+        hinted = ro.hinted;
+        few = ro.hinting;
+        ended = omega (arith, ro.ended, mul-le-mul_right n bounded.rules-few);
+        giving = ro.giving;
+      }
 
   no-head : (q a z : ℕ) → Head [] q a z → ⊥
   no-head q a z m = Memᴰ.not-nil (sets_of-in [] q a m).1

@@ -20,6 +20,7 @@ use Rattle.rounds.specs.RoundLaws.{round_table}
 use Rattle.saturation.specs.RuleLinks.{Linked}
 use Rattle.noting.specs.Signs.{Reads}
 use Rattle.saturation.specs.Kept.{Room, Rested}
+use Rattle.solver.specs.declared.saturating.Arrays.{Arrays}
 use Rattle.saturation.specs.Resting.{Resting, RoundTaken}
 use Rattle.unions.specs.Ranks.{Noted, Sized}
 use Rattle.solver.specs.Leaving.{leaving, called, solved_with}
@@ -165,33 +166,34 @@ module _ {el : List ℕ} {g : PushdownGame} {m n heads abelard letters rulecount
         })
         turn)
 
--- The loop's turns: the table is as it was, the log has its length, and what is kept rests at round i.
-pub record Turning {W L H G E : ℕ} (rules : Rules) (first : ℕ) (table₀ log₀ : List ℕ) (marks₀ : Marks W) (kept₀ : Kept W L H G E)
-    (table log : List ℕ) (marks : Marks W) (kept : Kept W L H G E) (size entries i : ℕ) : Type 0 where
+-- The loop's turns: the table is as it was, the log has its length, the lines are within their array, and what is kept rests at round i.
+pub record Turning {W L H G E : ℕ} (rules : Rules) (first : ℕ) (table₀ log₀ : List ℕ) (marks₀ : Marks) (kept₀ : Kept) (arrays₀ : Arrays W L H G E)
+    (table log : List ℕ) (marks : Marks) (kept : Kept) (arrays : Arrays W L H G E) (size entries i : ℕ) : Type 0 where
   pub most : i ≤ max_rounds
   pub sized : size ≡ length table₀ / 3
   pub tabled : table ≡ table₀
   pub room : entries ≤ size
+  pub lined : kept.lines ≤ L
   pub logs : length log ≡ length log₀
   pub gone : (el : List ℕ) (g : PushdownGame) (m : ℕ) → rules.sizes.control ≡ g.control → rules.sizes.states ≡ g.states → Reads rules.bytes.now rules.sizes.rulecount rules.readers.now
       → Linked rules.bytes.now rules.sizes.rulecount rules.frame.letters rules.sizes.control rules.firsts.now rules.nexts.now → table₀ ≡ replicate (m * 3) 0
-      → Rested el g [] (round_zero g) 0 rules marks₀ kept₀ log₀ kept₀.families.count first
-      → Rests el g m rules.frame.n rules.frame.heads rules.sizes.abelard rules.frame.letters rules.sizes.rulecount rules.bytes.now rules.frame.states rules.frame.numbers
-      rules.frame.raising.now kept.families.all marks.more kept.families.keys kept.families.rests marks.fresh marks.alive kept.ends kept.added log marks.news marks.held kept.families.count entries i
+      → Rested el g [] (round_zero g) 0 rules marks₀ arrays₀.all arrays₀.more arrays₀.keys arrays₀.rests arrays₀.ends arrays₀.added log₀ kept₀.lines first
+      → Rests el g m rules.frame.n rules.frame.heads rules.sizes.abelard rules.frame.letters rules.sizes.rulecount rules.bytes.now rules.frame.states rules.numbers
+      rules.frame.raising.now arrays.all arrays.more arrays.keys arrays.rests marks.fresh marks.alive arrays.ends arrays.added log marks.news marks.held kept.lines entries i
 
 -- what writing the table needs
-pub sized-at : {W L H G E : ℕ} (rules : Rules) (marks : Marks W) (kept : Kept W L H G E) → Room rules.frame.heads rules.frame.n rules.sizes.rulecount W L G E → (count size : ℕ) → count ≤ size
+pub sized-at : {W L H G E : ℕ} (rules : Rules) (arrays : Arrays W L H G E) → Room rules.frame.heads rules.frame.n rules.sizes.rulecount W W L L H E G → (count size : ℕ) → count ≤ size
     → (log : List ℕ) → size * 3 ≤ length log
-    → Sized rules.frame.letters rules.frame.heads rules.frame.n count rules.frame.states kept.families.all marks.more log
-sized-at {L = L} rules marks kept room count size l log ll =
+    → Sized rules.frame.letters rules.frame.heads rules.frame.n count rules.frame.states arrays.all arrays.more log
+sized-at {L = L} rules arrays room count size l log ll =
     let many = mul-le-mul_right rules.frame.n (more rules.frame.heads L) in
     record {
       long = rules.frame.long;
       few = rules.frame.few;
       rows = rules.frame.most;
       words = rules.frame.words;
-      area = omega (arith, kept.families.area, room.area, many);
-      room = omega (arith, marks.newer, room.area, many);
+      area = omega (arith, arrays.area, room.area, many);
+      room = omega (arith, arrays.newer, room.area, many);
       ends = omega (arith, ll, l);
     }
   where

@@ -7,6 +7,7 @@ ghost use Rattle.rounds.specs.Solving.{solving_game};
 ghost use Rattle.saturation.specs.RuleLinks.{Linked};
 ghost use Rattle.noting.specs.Signs.{Reads};
 ghost use Rattle.saturation.specs.Kept.{Room, Rested};
+ghost use Rattle.family.specs.Masks.{Raising};
 ghost use Rattle.unions.specs.Ranks.{Sized, Noted};
 ghost use Rattle.solver.specs.Leaving.{leaving, solved_with, called};
 ghost use Rattle.solver.specs.Given.{Given, solving_rounds};
@@ -18,7 +19,35 @@ use game::{Game, Question, Refusal, Sizes};
 use noting::{Marks, mark_rules, note_targets, set_masks};
 use saturation::{Kept, Rules, link, take_round};
 use table::EntryWords;
-use unions::{Families, Frame, Numbering, write_entries};
+use unions::{Frame, Numbering, write_entries};
+
+// The families of the heads and, after them, of the lines, and what each has more than before; of each line its set and letter, and the
+// family of the set without its lowest element; for each set where its line may be found; the ends of each rule of Abelard's; and what the
+// heads were given in the round. How long the arrays are the fields without values say too: of what a call leaves behind a reference,
+// nothing else says it.
+#[derive(Drop)]
+struct Arrays<
+    const WORDS: usize,
+    const LINES: usize,
+    const HINTS: usize,
+    const GIVEN: usize,
+    const ENDS: usize,
+> {
+    all: [u64; WORDS],
+    more: [u64; WORDS],
+    keys: [u32; LINES],
+    rests: [u32; LINES],
+    hints: [u32; HINTS],
+    ends: [u64; ENDS],
+    added: [u64; GIVEN],
+    ghost area: { length all ≡ WORDS },
+    ghost newer: { length more ≡ WORDS },
+    ghost keyed: { length keys ≡ LINES },
+    ghost resting: { length rests ≡ LINES },
+    ghost hinting: { length hints ≡ HINTS },
+    ghost ending: { length ends ≡ ENDS },
+    ghost adds: { length added ≡ GIVEN },
+}
 
 // Round 0 and the others, in arrays in which nothing is.
 pub fn rounds_in<
@@ -61,38 +90,38 @@ pub fn rounds_in<
     mark_rules(rules, sizes.rulecount, &mut readers);
     let states = numbering.states;
     let numbers = numbering.numbers;
-    let raising = raising_table();
+    let raising: &'static [u64] = raising_table();
     let frame = Frame {
         letters,
         heads,
         n,
         states,
-        numbers,
         raising,
     };
     let rules = Rules {
         frame,
+        numbers,
         sizes,
         bytes: rules,
         firsts: &firsts[..],
         nexts: &nexts,
         readers: &readers,
     };
-    let mut kept = Kept {
-        families: Families {
-            all: [0u64; WORDS],
-            keys: [0u32; LINES],
-            rests: [0u32; LINES],
-            hints: [0u32; HINTS],
-            count: 0,
-        },
-        added: [0u64; GIVEN],
+    let mut arrays = Arrays {
+        all: [0u64; WORDS],
+        more: [0u64; WORDS],
+        keys: [0u32; LINES],
+        rests: [0u32; LINES],
+        hints: [0u32; HINTS],
         ends: [0u64; ENDS],
+        added: [0u64; GIVEN],
+    };
+    let mut kept = Kept {
+        lines: 0,
         gains: [0u64; 32],
         stirred: [0u64; 32],
     };
     let mut marks = Marks {
-        more: [0u64; WORDS],
         fresh: [0usize; 64],
         alive: [0usize; 64],
         news: [0u64; 32],
@@ -104,6 +133,7 @@ pub fn rounds_in<
         targets,
         &mut marks,
         &mut kept,
+        &mut arrays,
         table,
         work,
     )
@@ -117,34 +147,35 @@ fn rounds_of<
     const GIVEN: usize,
     const ENDS: usize,
 >(
-    rules: &Rules<'_>,
+    rules: &Rules<'_, '_>,
     elements: usize,
     targets: &[u32],
-    marks: &mut Marks<WORDS>,
-    kept: &mut Kept<WORDS, LINES, HINTS, GIVEN, ENDS>,
+    marks: &mut Marks,
+    kept: &mut Kept,
+    arrays: &mut Arrays<WORDS, LINES, HINTS, GIVEN, ENDS>,
     table: &mut [u32],
     work: &mut [u32],
 ) -> Result<Solved, Refusal>
     requires { ((g : PushdownGame) × Given g rules.now.sizes rules.now.bytes.now targets.now) × (length table.old ≡ length work.old) × (length table.old ≤ 6144)
         × (rules.now.frame.heads ≡ rules.now.sizes.states * rules.now.sizes.letters) × (elements ≤ 10)
-        × Room rules.now.frame.heads rules.now.frame.n rules.now.sizes.rulecount WORDS LINES GIVEN ENDS }
+        × Room rules.now.frame.heads rules.now.frame.n rules.now.sizes.rulecount WORDS WORDS LINES LINES HINTS ENDS GIVEN × (kept.old.lines ≤ LINES) }
     ensures { (g : PushdownGame) (m : ℕ) → Given g rules.now.sizes rules.now.bytes.now targets.now
         → Reads rules.now.bytes.now rules.now.sizes.rulecount rules.now.readers.now
         → Linked rules.now.bytes.now rules.now.sizes.rulecount rules.now.frame.letters rules.now.sizes.control rules.now.firsts.now rules.now.nexts.now
-        → table.old ≡ replicate (m * 3) 0 → Few g elements rules.now.frame.n rules.now.frame.states rules.now.frame.numbers
-        → kept.old.families.count ≡ 0 → Blanks kept.old.families.all marks.old.more kept.old.added kept.old.ends
+        → table.old ≡ replicate (m * 3) 0 → Few g elements rules.now.frame.n rules.now.frame.states rules.now.numbers → Raising rules.now.frame.raising.now
+        → kept.old.lines ≡ 0 → Blanks arrays.old.all arrays.old.more arrays.old.added arrays.old.ends
         → called result table.new work.new ≡ leaving (solving_game g m) (length table.old) (length work.old) }
 {
     let size = table.len() / EntryWords::STRIDE;
     let Some(first) = note_targets(
         targets,
         rules.sizes.targetcount,
-        &rules.frame.numbers,
+        &rules.numbers,
         rules.frame.letters,
         rules.frame.heads,
         rules.frame.n,
-        &mut kept.families.all,
-        &mut marks.more,
+        &mut arrays.all,
+        &mut arrays.more,
         work,
         size,
         &mut marks.news,
@@ -157,12 +188,12 @@ fn rounds_of<
         rules.frame.letters,
         rules.frame.heads,
         rules.frame.n,
-        &kept.families.all,
-        &marks.more,
+        &arrays.all,
+        &arrays.more,
         &mut marks.fresh,
         &mut marks.alive,
     );
-    rounds_on(rules, marks, kept, table, work, first)
+    rounds_on(rules, marks, kept, arrays, table, work, first)
 }
 
 // The rounds after round 0, taken in order until settled. The work area has the entries in the order in which they came.
@@ -173,20 +204,21 @@ fn rounds_on<
     const GIVEN: usize,
     const ENDS: usize,
 >(
-    rules: &Rules<'_>,
-    marks: &mut Marks<WORDS>,
-    kept: &mut Kept<WORDS, LINES, HINTS, GIVEN, ENDS>,
+    rules: &Rules<'_, '_>,
+    marks: &mut Marks,
+    kept: &mut Kept,
+    arrays: &mut Arrays<WORDS, LINES, HINTS, GIVEN, ENDS>,
     table: &mut [u32],
     log: &mut [u32],
     first: usize,
 ) -> Result<Solved, Refusal>
-    requires { Room rules.now.frame.heads rules.now.frame.n rules.now.sizes.rulecount WORDS LINES GIVEN ENDS × (length table.old ≡ length log.old) × (length table.old ≤ 6144)
-        × (first ≤ length table.old / 3) }
+    requires { Room rules.now.frame.heads rules.now.frame.n rules.now.sizes.rulecount WORDS WORDS LINES LINES HINTS ENDS GIVEN × (length table.old ≡ length log.old)
+        × (length table.old ≤ 6144) × (first ≤ length table.old / 3) × (kept.old.lines ≤ LINES) }
     ensures { (el : List ℕ) (g : PushdownGame) (m : ℕ) → rules.now.sizes.control ≡ g.control → rules.now.sizes.states ≡ g.states
         → Reads rules.now.bytes.now rules.now.sizes.rulecount rules.now.readers.now
         → Linked rules.now.bytes.now rules.now.sizes.rulecount rules.now.frame.letters rules.now.sizes.control rules.now.firsts.now rules.now.nexts.now
         → table.old ≡ replicate (m * 3) 0
-        → Rested el g [] (round_zero g) 0 rules.now marks.old kept.old log.old kept.old.families.count first
+        → Rested el g [] (round_zero g) 0 rules.now marks.old arrays.old.all arrays.old.more arrays.old.keys arrays.old.rests arrays.old.ends arrays.old.added log.old kept.old.lines first
         → called result table.new log.new ≡ leaving (solving_rounds g m) (length table.old) (length log.old) }
 {
     let size = table.len() / EntryWords::STRIDE;
@@ -195,8 +227,23 @@ fn rounds_on<
     let mut older = 0;
     let mut oldest = 0;
     loop {
-        kept.families.count = lines_kept(kept.families.count, oldest, older, entries, size);
-        let Some(next) = take_round(rules, marks, kept, log, size, i + 1, entries) else {
+        kept.lines = lines_kept(kept.lines, oldest, older, entries, size);
+        let Some(next) = take_round(
+            rules,
+            marks,
+            kept,
+            &mut arrays.all,
+            &mut arrays.more,
+            &mut arrays.keys,
+            &mut arrays.rests,
+            &mut arrays.hints,
+            &mut arrays.ends,
+            &mut arrays.added,
+            log,
+            size,
+            i + 1,
+            entries,
+        ) else {
             if Game::MAX_ROUNDS <= i {
                 return give_up(table, log, Question::Rounds.at(i as usize + 1));
             }
@@ -208,8 +255,8 @@ fn rounds_on<
                 log,
                 next,
                 i,
-                &kept.families.all,
-                &mut marks.more,
+                &arrays.all,
+                &mut arrays.more,
                 &rules.frame,
             );
         }

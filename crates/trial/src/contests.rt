@@ -54,14 +54,14 @@ impl Trial<'_> {
     }
 
     fn reported_rule(&self, reported: Option<u32>) -> Option<Rule> {
-        self.game.rules.get(reported? as usize).copied()
+        self.game.rules.as_slice().get(reported? as usize).copied()
     }
 
     // A rule of the board's head that is drawn: of the rules seen up to now each is as likely as another.
     fn drawn_rule(&self, choice: usize, board: &Board) -> Option<Rule> {
         let mut chosen = None;
         let mut seen = 0usize;
-        for rule in self.game.rules.iter() {
+        for rule in self.game.rules.as_slice().iter() {
             if rule.is_of_head(board.state(), board.letter()) {
                 seen = seen.saturating_add(1);
                 if drawn(self.game.sizes.number, choice, seen) == 0 {

@@ -5,10 +5,10 @@
 ghost use Rattle.std.specs.Prelude.{◌≤◌};
 
 use crate::plain::bit;
+use arrayvec::ArrayVec;
 use script::byte_of;
-use std::alloc::{AllocError, Global};
 
-#[derive(Clone, Copy, Debug, PartialEq, Eq)]
+#[derive(Clone, Copy, Debug, Default, PartialEq, Eq)]
 pub struct Rule {
     pub from: u8,
     pub top: u8,
@@ -18,7 +18,7 @@ pub struct Rule {
     pub below: u8,
 }
 
-#[derive(Clone, Copy, Debug, PartialEq, Eq)]
+#[derive(Clone, Copy, Debug, Default, PartialEq, Eq)]
 pub struct Target {
     pub state: u8,
     pub letter: u8,
@@ -26,15 +26,15 @@ pub struct Target {
 }
 
 // What the plain solver and the plays know of a game: its sizes, Abelard's states and the final ones as sets, its rules and its target
-// transitions. And its file.
+// transitions. And its file. All have room in the game itself, so that a trial needs no memory of its own.
 #[derive(Drop)]
 pub struct Made {
     pub sizes: Sizes,
     pub abelard: u8,
     pub finals: u8,
-    pub rules: Vec<Rule>,
-    pub targets: Vec<Target>,
-    pub file: Vec<u8>,
+    pub rules: ArrayVec<Rule, RULES>,
+    pub targets: ArrayVec<Target, TRANSITIONS>,
+    pub file: ArrayVec<u8, BYTES>,
 }
 
 // A game's number and its sizes.
@@ -56,6 +56,11 @@ const HEADS: usize = 12;
 
 const TRANSITIONS: usize = 60;
 
+// Three rules of each head, and the bytes of a file with all of them, with all transitions, and with eight states in each set.
+const RULES: usize = 3 * HEADS;
+
+const BYTES: usize = 4 + 2 * 8 + 2 * 8 + 7 * RULES + 7 * TRANSITIONS + 1;
+
 // A number below n, chosen by a game's number and the choice's own.
 pub fn drawn(number: usize, choice: usize, n: usize) -> usize
     ensures { result ≤ n }
@@ -72,34 +77,41 @@ fn mixed(x: u32) -> u32 {
     (x ^ (x >> 16)).wrapping_mul(73244475)
 }
 
+// Bytes at a file's end. There is room for those of any game.
+fn put(file: &mut ArrayVec<u8, BYTES>, bytes: &[u8]) {
+    let _ = file.try_extend_from_slice(bytes);
+}
+
 impl Made {
     // The game of a number.
-    pub fn new(alloc: Global, number: usize) -> Result<Made, AllocError> {
+    pub fn new(number: usize) -> Made {
         let sizes = Sizes::of(number);
         let mut game = Made {
             sizes,
             abelard: byte_of(drawn(number, 3, usize::from(bit(sizes.control)))),
             finals: sizes.finals(),
-            rules: sizes.rules(alloc)?,
-            targets: sizes.targets(alloc)?,
-            file: Vec::new(alloc),
+            rules: sizes.rules(),
+            targets: sizes.targets(),
+            file: ArrayVec::new(),
         };
-        game.put_file()?;
-        Ok(game)
+        game.put_file();
+        game
     }
 
-    fn put_file(&mut self) -> Result<(), AllocError> {
+    fn put_file(&mut self) {
         let Sizes {
             control,
             further,
             letters,
             ..
         } = self.sizes;
-        self.file
-            .extend_from_slice(&[1, control, control.saturating_add(further), letters])?;
-        self.put_members(2, self.abelard)?;
-        self.put_members(3, self.finals)?;
-        for rule in self.rules.iter() {
+        put(
+            &mut self.file,
+            &[1, control, control.saturating_add(further), letters],
+        );
+        self.put_members(2, self.abelard);
+        self.put_members(3, self.finals);
+        for rule in self.rules.as_slice().iter() {
             let Rule {
                 from,
                 top,
@@ -108,26 +120,22 @@ impl Made {
                 above,
                 below,
             } = *rule;
-            self.file
-                .extend_from_slice(&[4, from, top, to, count, above, below])?;
+            put(&mut self.file, &[4, from, top, to, count, above, below]);
         }
-        for target in self.targets.iter() {
+        for target in self.targets.as_slice().iter() {
             let Target { state, letter, set } = *target;
-            self.file
-                .extend_from_slice(&[5, state, letter, set, 0, 0, 0])?;
+            put(&mut self.file, &[5, state, letter, set, 0, 0, 0]);
         }
-        self.file.push(255)?;
-        Ok(())
+        put(&mut self.file, &[255]);
     }
 
     // A command of one operand for each member of a set of states below 8.
-    fn put_members(&mut self, code: u8, set: u8) -> Result<(), AllocError> {
+    fn put_members(&mut self, code: u8, set: u8) {
         for q in 0..8 {
             if set & bit(q) != 0 {
-                self.file.extend_from_slice(&[code, q])?;
+                put(&mut self.file, &[code, q]);
             }
         }
-        Ok(())
     }
 }
 
@@ -155,19 +163,19 @@ impl Sizes {
     }
 
     // One to three rules of every head.
-    fn rules(&self, alloc: Global) -> Result<Vec<Rule>, AllocError> {
-        let mut rules = Vec::new(alloc);
+    fn rules(&self) -> ArrayVec<Rule, RULES> {
+        let mut rules = ArrayVec::new();
         for p in 0..self.control {
             for a in 0..self.letters {
                 let head = (usize::from(p) * LETTERS + usize::from(a)) % HEADS;
                 for j in 0..self.drawn(16 + head, 3).saturating_add(1) {
                     if let Some(rule) = self.rule(p, a, head, j) {
-                        rules.push(rule)?;
+                        let _ = rules.try_push(rule);
                     }
                 }
             }
         }
-        Ok(rules)
+        rules
     }
 
     // The rule j of a head, if the head can have so many. Its rules differ in control state or in how many letters they write: there are 2
@@ -215,14 +223,14 @@ impl Sizes {
     }
 
     // The target transitions: one on the bottom for some control state, and others by chance.
-    fn targets(&self, alloc: Global) -> Result<Vec<Target>, AllocError> {
-        let mut targets = Vec::new(alloc);
+    fn targets(&self) -> ArrayVec<Target, TRANSITIONS> {
+        let mut targets = ArrayVec::new();
         for i in 0..TRANSITIONS {
             if let Some(target) = self.target(i) {
-                targets.push(target)?;
+                let _ = targets.try_push(target);
             }
         }
-        Ok(targets)
+        targets
     }
 
     // The transition of a number, if the game has its state, letter and set and it is chosen. Its set is one of further states.

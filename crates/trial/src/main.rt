@@ -39,5 +39,5 @@ fn main(rt: HostRuntime) -> io::Result<()> {
     )?;
     let edges = every_edge(out, &mut areas);
     println!(rt; "edges: {} checks, {} failed", edges.tried, edges.failed)?;
-    every_game(out, rt.alloc(), &mut areas)?.print(&rt)
+    every_game(out, &mut areas).print(&rt)
 }

@@ -1,6 +1,7 @@
 // The plain solver, written apart from the library: it tries moves up to a depth, Éloise some rule and Abelard every rule, and
 // reads the target automaton as document 01 has it. It uses nothing of solver and judge.
 ghost use Rattle.std.specs.Iterator.{at_most};
+ghost use Rattle.std.specs.Prelude.{◌<◌};
 
 use crate::games::{Made, Rule};
 use std::fmt;
@@ -57,7 +58,9 @@ pub fn turned(stack: usize) -> usize {
 }
 
 // The set of one state below 8.
-pub fn bit(state: u8) -> u8 {
+pub fn bit(state: u8) -> u8
+    ensures { 0 < result }
+{
     1 << (state % 8)
 }
 
@@ -99,7 +102,7 @@ impl Made {
             return false;
         }
         let all = self.is_abelards(p.state);
-        for rule in self.rules.iter() {
+        for rule in self.rules.as_slice().iter() {
             if rule.is_of(p) && self.wins(rule.played(p), depth - 1) != all {
                 return !all;
             }
@@ -119,7 +122,7 @@ impl Made {
     // The states that have a transition on the letter all of whose set accepts the rest.
     pub fn states_on(&self, letter: u8, accepting: u8) -> u8 {
         let mut states = 0;
-        for target in self.targets.iter() {
+        for target in self.targets.as_slice().iter() {
             if target.letter == letter && target.set & accepting == target.set {
                 states |= bit(target.state);
             }

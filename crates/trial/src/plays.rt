@@ -110,7 +110,12 @@ impl Trial<'_> {
     // The position after one move, by Éloise's advised rule or Abelard's worst for her; the same one where no rule of the head is advised.
     fn after(&self, place: Place) -> Place {
         let advised = match place.judged {
-            Ok(Verdict::Eloise { rule, .. }) => self.game.rules.get(rule as usize).copied(),
+            Ok(Verdict::Eloise { rule, .. }) => self
+                .game
+                .rules
+                .as_slice()
+                .get(rule as usize)
+                .copied(),
             _ => self.spread_of(place.at).worst,
         };
         match advised {
@@ -127,7 +132,7 @@ impl Trial<'_> {
             worst: None,
             losing: None,
         };
-        for (i, rule) in self.game.rules.iter().enumerate() {
+        for (i, rule) in self.game.rules.as_slice().iter().enumerate() {
             if rule.is_of(at) {
                 s.add(i, *rule, self.judge(rule.played(at)).bound());
             }

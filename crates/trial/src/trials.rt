@@ -15,8 +15,6 @@ use crate::plays::{Bound, End, Place, Trial};
 use crate::samples::words_of;
 use judge::Verdict;
 use script::{byte_of, front};
-use std::alloc::Global;
-use std::io;
 use std::io::Stdout;
 
 const GAMES: usize = 320;
@@ -33,10 +31,10 @@ const DRAWN: usize = 4;
 // More than any of the games has control states.
 const STATES: u8 = 3;
 
-pub fn every_game(out: Stdout, alloc: Global, areas: &mut Areas) -> io::Result<Counts> {
+pub fn every_game(out: Stdout, areas: &mut Areas) -> Counts {
     let mut c = Counts::default();
     for number in 0..GAMES {
-        let game = Made::new(alloc, number)?;
+        let game = Made::new(number);
         match areas.solve(game.file.as_slice()) {
             Ok(solved) => {
                 c.solved(solved.rounds);
@@ -51,7 +49,7 @@ pub fn every_game(out: Stdout, alloc: Global, areas: &mut Areas) -> io::Result<C
             Err(refusal) => c.refused(out, number, refusal),
         }
     }
-    Ok(c)
+    c
 }
 
 impl Trial<'_> {

@@ -22,6 +22,7 @@ pub fn more_of_rule(
     r: usize,
     rules: &[u8],
     frame: &Frame,
+    numbers: &[usize],
     all: &mut [u64],
     new: &[u64],
     count: usize,
@@ -32,11 +33,11 @@ pub fn more_of_rule(
     alive: &[usize],
 ) -> usize
     requires { Fits frame.now.letters frame.now.heads frame.now.n frame.now.states all.old keys.old rests.old hints.old
-        × (count ≤ length keys.old) × (length new.now ≡ length all.old) × Masked frame.now.numbers fresh.now alive.now
+        × (count ≤ length keys.old) × (length new.now ≡ length all.old) × Masked numbers.now fresh.now alive.now
         × RuleFits rules.now frame.now.letters frame.now.heads r × (r < 256) × (16 ≤ length more.old) }
     ensures by_index { (el : List ℕ) (g : PushdownGame) (old es : List Entry) (i : ℕ) (rule : Rule) → Raising frame.now.raising.now → frame.now.letters ≡ g.letters
         → rule ≡ rule_at rules.now (r * 6) rule.number → GoodRule g.control g.letters rule → g.control ≤ g.states
-        → Growth el g frame.now.n old es i frame.now.numbers new.now fresh.now alive.now → (rule.count ≡ 0 → Listed el rule.to)
+        → Growth el g frame.now.n old es i numbers.now new.now fresh.now alive.now → (rule.count ≡ 0 → Listed el rule.to)
         → NoSets more.old
         → Pool el g frame.now.n frame.now.heads frame.now.states es all.old keys.old rests.old count
         → Pool el g frame.now.n frame.now.heads frame.now.states es all.new keys.new rests.new result
@@ -51,6 +52,7 @@ pub fn more_of_rule(
         usize::from(rules[at + 4]),
         usize::from(rules[at + 5]),
         frame,
+        numbers,
         all,
         new,
         count,
@@ -71,6 +73,7 @@ pub fn more_ends(
     b: usize,
     c: usize,
     frame: &Frame,
+    numbers: &[usize],
     all: &mut [u64],
     new: &[u64],
     count: usize,
@@ -82,9 +85,9 @@ pub fn more_ends(
 ) -> usize
     requires { Fits frame.now.letters frame.now.heads frame.now.n frame.now.states all.old keys.old rests.old hints.old × (c < frame.now.letters)
         × (count ≤ length keys.old) × (16 ≤ length more.old) × (q * frame.now.letters + frame.now.letters ≤ frame.now.heads) × (length new.now ≡ length all.old)
-        × (b < frame.now.letters) × Masked frame.now.numbers fresh.now alive.now × (q < 32) }
+        × (b < frame.now.letters) × Masked numbers.now fresh.now alive.now × (q < 32) }
     ensures by_index { (el : List ℕ) (g : PushdownGame) (old es : List Entry) (i : ℕ) → Raising frame.now.raising.now → frame.now.letters ≡ g.letters → q < g.states → written ≤ 2
-        → Growth el g frame.now.n old es i frame.now.numbers new.now fresh.now alive.now → (written ≡ 0 → Listed el q)
+        → Growth el g frame.now.n old es i numbers.now new.now fresh.now alive.now → (written ≡ 0 → Listed el q)
         → NoSets more.old
         → Pool el g frame.now.n frame.now.heads frame.now.states es all.old keys.old rests.old count
         → Pool el g frame.now.n frame.now.heads frame.now.states es all.new keys.new rests.new result
@@ -92,7 +95,7 @@ pub fn more_ends(
     ensures upper_bound { result ≤ length keys.old }
 {
     if written == 0 {
-        put_at(more, 0, frame.numbers[q]);
+        put_at(more, 0, numbers[q]);
         return count;
     }
     let head = q * frame.letters + b;

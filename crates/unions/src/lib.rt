@@ -14,6 +14,6 @@ mod writing;
 
 pub use elements::{Numbering, element_set, elements_of};
 pub use ends::{lowest_set, more_ends, more_of_rule};
-pub use families::{Families, Frame};
+pub use families::Frame;
 pub use lines::{Found, family_of, renew_lines};
 pub use writing::{put_entry, sets_in, write_entries};

@@ -9,4 +9,4 @@ use Rattle.enumeration.proofs.Freshness.{mark_set}
 use Rattle.enumeration.proofs.fresh.mark.Goals as goal
 
 pub returns : goal.returns
-returns c = λ m. mark_set c.args.work.now c.args.fresh.now _ c.args.i m c.at-entry.result.first (ap (λ (x : EntryWords). x.first) c.at-entry.ensures) c.letter-at.result c.joined.result c.letter-at.ensures (omega (arith, c.letter-at.ensures)) (c.joined.ensures (omega (arith, c.if-state-ge-MAX_STATES.false)) ∙ ap (λ (q : ℕ). union (get_or c.args.fresh.now c.letter-at.result 0) (single q)) c.state-state.ensures)
+returns c = λ long m. mark_set c.args.work.now c.args.fresh.now _ c.args.i m c.at-entry.result.first (ap (λ (x : EntryWords). x.first) c.at-entry.ensures) c.letter-at.result c.joined.result c.letter-at.ensures (omega (arith, c.if-fresh-at.false)) (c.joined.ensures (omega (arith, c.if-state-ge-MAX_STATES.false)) ∙ ap (λ (q : ℕ). union (get_or c.args.fresh.now c.letter-at.result 0) (single q)) c.state-state.ensures)

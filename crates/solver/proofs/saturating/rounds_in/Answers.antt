@@ -24,6 +24,8 @@ pub invariant_of-rules : goal.invariant_of-rules
 invariant_of-rules g c =
     let b = bounded c.requires.0.1 in
     record {
+      wide = c.requires.4.wide;
+      small = c.requires.4.small;
       lettered = refl;
       ruled = λ r l. rule_fits c.requires.0.1 r l _ c.requires.3;
       headed = λ r l. head-fits c.requires.0.1 r l _ c.requires.3;
@@ -40,15 +42,27 @@ invariant_of-rules g c =
       reading = c.mark_rules.auto.readers;
     }
 
+pub invariant_of-arrays : goal.invariant_of-arrays
+invariant_of-arrays g c =
+    record {
+      area = length-replicate {A = ℕ} g.row.WORDS 0;
+      newer = length-replicate {A = ℕ} g.row.WORDS 0;
+      keyed = length-replicate {A = ℕ} g.row.LINES 0;
+      resting = length-replicate {A = ℕ} g.row.LINES 0;
+      hinting = length-replicate {A = ℕ} g.row.HINTS 0;
+      ending = length-replicate {A = ℕ} g.row.ENDS 0;
+      adds = length-replicate {A = ℕ} g.row.GIVEN 0;
+    }
+
 pub invariant_of-marks : goal.invariant_of-marks
-invariant_of-marks g c = record { newer = length-replicate {A = ℕ} g.row.WORDS 0; freshes = refl; alives = refl; tidings = refl; holding = refl; few = λ k l. zeros-small 64 k }
+invariant_of-marks g c = record { freshes = refl; alives = refl; tidings = refl; holding = refl; few = λ k l. zeros-small 64 k }
 
 pub rounds_of-requires : goal.rounds_of-requires
 rounds_of-requires g c =
     let r = c.requires.5 in (
-      omega (arith, r.memory.0),
-      (omega (arith, r.memory, r.most, r.hinting), (c.requires.0, c.requires.1, c.requires.2, c.requires.3, c.requires.4.few, room-of c.requires.0.1 r)),
+      omega (arith, r.memory, r.most, r.hinting),
+      (c.requires.0, c.requires.1, c.requires.2, c.requires.3, c.requires.4.few, room-of c.requires.0.1 r, omega arith),
     )
 
 pub returns : goal.returns
-returns g c = λ h m given zeros few. c.rounds_of.ensures h m given c.mark_rules.ensures.reads c.link.ensures.linked zeros few refl (blanks-zero g.row.WORDS g.row.GIVEN g.row.ENDS)
+returns g c = λ h m given zeros few. c.rounds_of.ensures h m given c.mark_rules.ensures.reads c.link.ensures.linked zeros few c.raising_table.ensures refl (blanks-zero g.row.WORDS g.row.GIVEN g.row.ENDS)

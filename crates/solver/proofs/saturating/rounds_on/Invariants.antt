@@ -8,7 +8,7 @@ use Rattle.solver.proofs.saturating.rounds_on.Given as goal
 -- and what `take_round` promises.
 abbrev pub invariant-loop-next : goal.invariant-loop-next
 invariant-loop-next g l =
-    Turning l.rules l.first l.initial.table l.initial.log l.initial.marks l.initial.kept l.table l.log l.marks l.kept l.size l.entries l.i
+    Turning l.rules l.first l.initial.table l.initial.log l.initial.marks l.initial.kept l.initial.arrays l.table l.log l.marks l.kept l.arrays l.size l.entries l.i
 
 abbrev pub decreases-loop-next : goal.decreases-loop-next
 decreases-loop-next g l =

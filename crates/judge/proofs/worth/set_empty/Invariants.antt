@@ -1,5 +1,5 @@
 use Rattle.judge.proofs.Filling.{Filled, empty_worth}
-use Rattle.judge.proofs.worth.empty_worths.Given as goal
+use Rattle.judge.proofs.worth.set_empty.Given as goal
 
 -- The first q places hold the worths of the empty stack, the others none.
 -- Assumes what the contract requires.

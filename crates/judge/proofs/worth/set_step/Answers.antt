@@ -1,5 +1,5 @@
 use Rattle.judge.proofs.Filling.{start, next, step_number, step-filled}
-use Rattle.judge.proofs.worth.letter_step.Goals as goal
+use Rattle.judge.proofs.worth.set_step.Goals as goal
 
 pub loop-q-init : goal.loop-q-init
 loop-q-init c = start _ _

@@ -1,6 +1,6 @@
 use Rattle.judge.specs.Machine.{numbers}
 use Rattle.judge.proofs.Filling.{Filled, step_number}
-use Rattle.judge.proofs.worth.letter_step.Given as goal
+use Rattle.judge.proofs.worth.set_step.Given as goal
 
 -- The first q places hold the least worths of their heads, the others none (`Filled`).
 -- Assumes what the contract requires.

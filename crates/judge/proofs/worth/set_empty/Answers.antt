@@ -1,5 +1,5 @@
 use Rattle.judge.proofs.Filling.{start, next, empty_worth, empty-filled}
-use Rattle.judge.proofs.worth.empty_worths.Goals as goal
+use Rattle.judge.proofs.worth.set_empty.Goals as goal
 
 pub loop-q-init : goal.loop-q-init
 loop-q-init c = start _ _
