@@ -119,7 +119,7 @@ fn add_runs(
         let mut next = first_rule(sizes, round.rules, p, a, heads <= turn);
         while let Some(r) = next {
             let task = Task {
-                job: job_of(round, p, a, r),
+                job: job_of(round, p, a, r, round.old),
                 rules: round.rules,
                 work: round.work,
                 places: round.places,
@@ -154,10 +154,10 @@ fn first_rule(sizes: Sizes, rules: &[u8], p: u8, a: u8, later: bool) -> Option<u
     next_rule(rules, sizes.rulecount, 0, p, a)
 }
 
-// The job of rule r of a head: Abelard's takes one run for each of his rules, Éloise's the rule by itself.
-fn job_of(round: Round, p: u8, a: u8, r: usize) -> Job
+// The job of rule r of a head, over the first `old` entries: Abelard's takes one run for each of his rules, Éloise's the rule by itself.
+fn job_of(round: Round, p: u8, a: u8, r: usize, old: usize) -> Job
     requires { r < round.sizes.rulecount }
-    ensures value { result ≡ job_of round.entry.sizes p a round.entry.birthdate r round.entry.old result.last }
+    ensures value { result ≡ job_of round.entry.sizes p a round.entry.birthdate r old result.last }
     ensures settled_from { SettledFrom round.entry.rules.now round.entry.fresh.now result.end p a result.last }
 {
     let sizes = round.sizes;
@@ -169,7 +169,7 @@ fn job_of(round: Round, p: u8, a: u8, r: usize) -> Job
             first,
             field: 0,
             end: sizes.rulecount,
-            count: round.old,
+            count: old,
             last: last_fresh(round.rules, round.fresh, r, sizes.rulecount, p, a),
         };
     }
@@ -179,7 +179,7 @@ fn job_of(round: Round, p: u8, a: u8, r: usize) -> Job
         first,
         field: (r as u32) + 1,
         end: r + 1,
-        count: round.old,
+        count: old,
         last: last_fresh(round.rules, round.fresh, r, r + 1, p, a),
     }
 }
