@@ -5,8 +5,8 @@
 // leaves out the unions, the ends of runs and the table written at last, which are those of `unions`, round 0 and the marks, which are those
 // of `noting`, and the order of rounds and their end, which are the solver's.
 //
-// A round is compiled once for each size of arrays. What such a round calls is marked to be inlined, here and below, since a function with
-// three callers is not inlined by itself.
+// The order of rounds is compiled once for each size of arrays, a round once for all, since it takes its areas as slices. What a round calls
+// is marked to be inlined, here and below.
 #![tactic(auto)]
 
 mod heads;
