@@ -1,5 +1,5 @@
 -- The turns of a walk through the states left of a set, over the words that the code holds: its levels, the table and the memo.
-use Prim.Native.Nat.{ℕ, suc, ◌+◌, ◌*◌, ◌-◌, ◌%◌, ◌^◌, ◌<◌, ◌≤◌}
+use Prim.Native.Nat.{ℕ, suc, ◌+◌, ◌*◌, ◌/◌, ◌-◌, ◌%◌, ◌^◌, ◌<◌, ◌≤◌}
 use native.Mathlib.Omega.{arith}
 use mathlib.Core.Path.{◌≡◌, refl, sym, ap, subst, ◌∙◌}
 use mathlib.Core.Logic.{◌⊎◌, ⊎_elim}
@@ -26,7 +26,8 @@ use Rattle.enumeration.specs.PastLaws.{older-at, past-stays, past_same, past-par
 use Rattle.rounds.specs.InsertLaws.{no_entry}
 use Rattle.enumeration.specs.Memo.{line_at}
 use Rattle.enumeration.specs.MemoLaws.{memo-stored}
-use Rattle.rounds.proofs.StoredRows.{over-full}
+use Rattle.rounds.proofs.StoredRows.{long_of}
+use Rattle.enumeration.specs.AlikeLaws.{over-full}
 use Rattle.enumeration.specs.Walk.{Skipped}
 use Rattle.rounds.specs.Scans.{Highest}
 use Rattle.enumeration.specs.Jobs.{Whole, Entered, Finished, sub_runs, tag_of}
@@ -98,7 +99,7 @@ module _ (g : PushdownGame) (old : List Entry) (birthdate n : ℕ) (job : Job) (
 
   -- the table is full: nothing of what is left changes it
   pub walk-over : (s : Growing) (first reached : ℕ) (lefts unions nexts limits : List ℕ) (depth left u i limit : ℕ) (words : List ℕ) (count : ℕ) (memo : List ℕ)
-      → Walking s first reached lefts unions nexts limits depth left u i limit words count memo → count ≡ suc n
+      → Walking s first reached lefts unions nexts limits depth left u i limit words count memo → length words / 3 < count
       → Finished g old birthdate n (part g old birthdate n job rules work r first reached) s words count memo
   walk-over s first reached lefts unions nexts limits depth left u i limit words count memo w over =
       let full = over-full n words count w.now w.entered.filled over in
@@ -107,6 +108,14 @@ module _ (g : PushdownGame) (old : List Entry) (birthdate n : ℕ) (job : Job) (
       ∙ after-full g old birthdate n job r (record { left = left; highest = w.high; union = u; next = i; late = limit } ∷ w.waiting) w.now full
       in
       record { filled = rw e w.entered.filled; memoed = rw e w.entered.memoed }
+
+  -- the same where none is told, that is one more than the table can hold
+  pub walk-none : (s : Growing) (first reached : ℕ) (lefts unions nexts limits : List ℕ) (depth left u i limit : ℕ) (words : List ℕ) (count : ℕ) (memo : List ℕ)
+      → Walking s first reached lefts unions nexts limits depth left u i limit words count memo → count ≡ suc n
+      → Finished g old birthdate n (part g old birthdate n job rules work r first reached) s words count memo
+  walk-none s first reached lefts unions nexts limits depth left u i limit words count memo w over =
+      walk-over s first reached lefts unions nexts limits depth left u i limit words count memo w
+      (omega (arith, long_of n words count w.now w.entered.filled, over))
 
   -- One turn: the highest state left is q, and entries are passed over up to place `found`.
   module _ (s : Growing) (first reached : ℕ) (lefts unions nexts limits : List ℕ) (depth left u i limit : ℕ) (words : List ℕ) (count : ℕ) (memo : List ℕ)

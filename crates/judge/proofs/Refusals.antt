@@ -11,7 +11,7 @@ use Rattle.game.specs.Position.{form}
 use Rattle.game.specs.Questions.{reading}
 use Rattle.game.specs.Stored.{sizes_of, as_stored, Reports}
 use Rattle.game.specs.Held.{Held, safe, Read}
-use Rattle.std.specs.Prelude.{Result, Err}
+use Rattle.std.specs.Prelude.{Result, Ok, Err, MatchResult, IsErrAnd}
 use Rattle.game.specs.declared.game.Game.{Game}
 use Rattle.game.specs.declared.refusal.Refusal.{Refusal}
 use Rattle.game.specs.declared.game.Sizes.{Sizes}
@@ -97,3 +97,9 @@ ready g sizes rules h words position t b part u =
       some-letters = omega (arith, b.many);
       short = omega (arith, b.few);
     }
+
+-- a refusal that is told as it came leaves the answer as it was
+pub as-told : {A : Type 0} {asked told : Result A Refusal} → MatchResult asked (λ x. told ≡ Ok x) (λ e. IsErrAnd told (λ r. r ≡ e)) → asked ≡ told
+as-told {asked = Ok x} h = sym h
+as-told {asked = Err e} {told = Err r} h = ap Err (sym h)
+as-told {asked = Err e} {told = Ok x} h = absurd h

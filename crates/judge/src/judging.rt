@@ -14,7 +14,7 @@ use table::{table_form, used_part};
 pub fn judge(file: &[u8], table: &[u32], position: &[u8]) -> Result<Verdict, Refusal>
     ensures { judged result ≡ judging file.now table.now position.now }
 {
-    let game = Game::read(file)?;
+    let game = Game::read(file).map_err(told)?;
     judge_game(game, table, position)
 }
 
@@ -26,7 +26,14 @@ pub fn judge_game(game: Game, table: &[u32], position: &[u8]) -> Result<Verdict,
 {
     let sizes = game.sizes();
     let rules = game.rules;
-    table_form(sizes, &rules, table)?;
-    position_form(sizes.control, sizes.letters, position)?;
+    table_form(sizes, &rules, table).map_err(told)?;
+    position_form(sizes.control, sizes.letters, position).map_err(told)?;
     Ok(verdict_on(sizes, &rules, used_part(table), position[0], &position[1..]))
+}
+
+// A refusal by a question before the verdict, as the judge tells it: the question, and its place.
+fn told(refusal: Refusal) -> Refusal
+    ensures { result ≡ refusal }
+{
+    refusal.question.at(refusal.place)
 }

@@ -13,7 +13,7 @@ ghost use Rattle.solver.specs.Leaving.{leaving, solved_with, called};
 ghost use Rattle.solver.specs.Given.{Given, solving_rounds};
 ghost use Rattle.solver.specs.Rooms.{Numbers, Rooms, Blanks, Few};
 
-use crate::solving::{Solved, give_up};
+use crate::solving::{Solved, clear, give_up};
 use family::raising_table;
 use game::{Game, Question, Refusal, Sizes};
 use noting::{Marks, mark_rules, note_targets, set_masks};
@@ -321,6 +321,6 @@ fn settle(
         frame.heads,
         frame.n,
     );
-    log.fill(0);
+    clear(log);
     Ok(Solved { entries, rounds })
 }

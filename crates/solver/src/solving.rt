@@ -32,8 +32,8 @@ pub fn solve(file: &[u8], table: &mut [u32], work: &mut [u32]) -> Result<Solved,
     ensures { called result table.new work.new
         ≡ solve_call file.now (length table.old) (length work.old) }
 {
-    table.fill(0);
-    work.fill(0);
+    clear(table);
+    clear(work);
     let game = Game::read(file)?;
     if table.len() != work.len() {
         return Err(Question::Areas.at(0));
@@ -113,6 +113,13 @@ fn round_zero(sizes: Sizes, rules: &[u8], targets: &[u32], table: &mut [u32]) ->
     Some(count)
 }
 
+// Zeroes an area.
+pub fn clear(area: &mut [u32])
+    ensures { area.new ≡ replicate (length area.old) 0 }
+{
+    area.fill(0);
+}
+
 // Copies an area over one of the same length.
 fn copy(from: &[u32], to: &mut [u32])
     requires { length from.now ≡ length to.old }
@@ -141,7 +148,7 @@ fn rounds_from(
         copy(table, work);
         let next = take_wide(sizes, rules, work, table, count, i + 1);
         if next == Some(count) {
-            work.fill(0);
+            clear(work);
             return Ok(Solved {
                 entries: count,
                 rounds: i,
@@ -163,7 +170,7 @@ pub fn give_up(begun: &mut [u32], work: &mut [u32], refusal: Refusal) -> Result<
     ensures work_after { called result begun.new work.new
         ≡ leaving (refused (number refusal.question) refusal.place) (length begun.old) (length work.old) }
 {
-    begun.fill(0);
-    work.fill(0);
+    clear(begun);
+    clear(work);
     Err(refusal)
 }

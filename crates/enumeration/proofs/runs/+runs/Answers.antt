@@ -10,7 +10,7 @@ use Rattle.enumeration.proofs.ListTurns.{adds, list-next, list-ends, list_over}
 use Rattle.enumeration.proofs.Parts.{later}
 use Rattle.enumeration.proofs.Earlier.{none-older, set-older, past-rest, past_one, past_two}
 use Rattle.enumeration.proofs.Depth.{bounded-start, deep, bounded_at, bounded-before, bounded-after, falls-here, falls-before, falls-after}
-use Rattle.enumeration.proofs.Walking.{walk-starts, walk-over, walk_ends, walk-back, past-last, walk-takes, walk-opens}
+use Rattle.enumeration.proofs.Walking.{walk-starts, walk-none, walk_ends, walk-back, past-last, walk-takes, walk-opens}
 use Rattle.enumeration.proofs.Turns.{hit, notes, begins-none, begins-one, begins-two, blocked, no-rule, job_of, listed-first, other-state, other-letter, same_head, none-of-it, rest-is, set-of, set_below, set-adds, union-adds, joins, joins-some, starts-below, ends-below, below-small, word-adds, rest_below}
 use Rattle.rounds.proofs.StoredRows.{long_of}
 use Prim.Native.Nat.{ℕ}
@@ -29,10 +29,12 @@ pass_states-loop-found-smaller-in_default t c = falls-before _ _ _ _ (omega (ari
 pub pass_states-loop-found-preserved-in_default : goal.pass_states-loop-found-preserved-in_default
 pass_states-loop-found-preserved-in_default t c = (c.loop-found.invariant.0, bounded-before _ _ _ _ _ _ _ _ c.loop-found.invariant.1 _ (omega (arith, c.if-depth-eq0.false)), λ g old b n s h pl ag li whole small past. let w = c.loop-found.invariant.2 g old b n s h pl ag li whole small past in walk-back g old b n _ _ _ _ s _ _ _ _ _ _ _ _ _ _ _ _ _ _ w whole (within g old b n _ _ _ _ _ _ s h _ c.requires.0) _ c.highest-q.ensures _ c.tag_of-tag.ensures _ (rest-is _ _ c.highest-q.ensures) c.args.task.now.fresh.now ag c.fresh_on-new.result (c.fresh_on-new.ensures ∙ ap (λ (a : ℕ). get_or c.args.task.now.fresh.now a 0) (below-is g old b n _ _ _ _ _ _ s h _ c.requires.0)) c.older_below-passing.result c.older_below-passing.ensures _ _ c.in_default.ensures.skipped (omega (arith, c.in_default.ensures.skipped.within, c.loop-found.invariant.1.within, c.end_at-end.ensures.upper_bound)) (ends-below g old b n _ _ _ _ _ _ s h _ c.requires.0 _ pl _ _ w.fit.small w.fit.some c.highest-q.ensures _ (c.end_at-end.ensures.by_index _)) (omega arith) _ c.finish.ensures (omega (arith, c.if-depth-eq0.false)))
 
+-- None is told: an entry was beyond the table, and nothing of what is left changes it.
+-- Of a number beyond the table `walk-over` says it; the edit `full_table_counts_as_over` has an answer by that in the place of these lines.
 pub pass_states-returns-in_err-filled-clause-finished : goal.pass_states-returns-in_err-filled-clause-finished
 pass_states-returns-in_err-filled-clause-finished t c =
     rw c.from_residual.ensures
-    (λ g old b n s h pl ag li whole small past. let w = c.loop-found.invariant.2 g old b n s h pl ag li whole small past in walk-over g old b n _ _ _ _ s _ _ _ _ _ _ _ _ _ _ _ _ _ _ (walk-takes g old b n _ _ _ _ s _ _ _ _ _ _ _ _ _ _ _ _ _ _ w whole (within g old b n _ _ _ _ _ _ s h _ c.requires.0) _ c.highest-q.ensures _ c.tag_of-tag.ensures _ (rest-is _ _ c.highest-q.ensures) c.args.task.now.fresh.now ag c.fresh_on-new.result (c.fresh_on-new.ensures ∙ ap (λ (a : ℕ). get_or c.args.task.now.fresh.now a 0) (below-is g old b n _ _ _ _ _ _ s h _ c.requires.0)) c.older_below-passing.result c.older_below-passing.ensures _ _ c.in-Some.ensures.skipped (omega (arith, c.in-Some.ensures.skipped.within, c.loop-found.invariant.1.within, c.end_at-end.ensures.upper_bound)) (ends-below g old b n _ _ _ _ _ _ s h _ c.requires.0 _ pl _ _ w.fit.small w.fit.some c.highest-q.ensures _ (c.end_at-end.ensures.by_index _)) c.in-Some.ensures.within (below-small g old b n _ _ _ _ _ _ s h _ c.requires.0 _ pl) _ refl c.if-rest-eq0.true _ _ _ (c.in_err-filled.ensures.finished g old b n w.now w.entered pl ag li whole (word-adds g old b n _ _ _ _ _ _ w.now w.entered c.in-Some.found c.loop-found.union (omega (arith, c.in-Some.ensures.within, c.end_at-end.ensures.upper_bound))) (past-last g old b n _ _ _ _ s _ _ _ _ _ _ _ _ _ _ _ _ _ _ w whole (within g old b n _ _ _ _ _ _ s h _ c.requires.0) _ c.highest-q.ensures _ c.tag_of-tag.ensures _ (rest-is _ _ c.highest-q.ensures) c.args.task.now.fresh.now ag c.fresh_on-new.result (c.fresh_on-new.ensures ∙ ap (λ (a : ℕ). get_or c.args.task.now.fresh.now a 0) (below-is g old b n _ _ _ _ _ _ s h _ c.requires.0)) c.older_below-passing.result c.older_below-passing.ensures _ _ c.in-Some.ensures.skipped (omega (arith, c.in-Some.ensures.skipped.within, c.loop-found.invariant.1.within, c.end_at-end.ensures.upper_bound)) (ends-below g old b n _ _ _ _ _ _ s h _ c.requires.0 _ pl _ _ w.fit.small w.fit.some c.highest-q.ensures _ (c.end_at-end.ensures.by_index _)) c.in-Some.ensures.within (below-small g old b n _ _ _ _ _ _ s h _ c.requires.0 _ pl) _ refl c.if-rest-eq0.true c.still_late-still.result c.still_late-still.ensures))) refl)
+    (λ g old b n s h pl ag li whole small past. let w = c.loop-found.invariant.2 g old b n s h pl ag li whole small past in walk-none g old b n _ _ _ _ s _ _ _ _ _ _ _ _ _ _ _ _ _ _ (walk-takes g old b n _ _ _ _ s _ _ _ _ _ _ _ _ _ _ _ _ _ _ w whole (within g old b n _ _ _ _ _ _ s h _ c.requires.0) _ c.highest-q.ensures _ c.tag_of-tag.ensures _ (rest-is _ _ c.highest-q.ensures) c.args.task.now.fresh.now ag c.fresh_on-new.result (c.fresh_on-new.ensures ∙ ap (λ (a : ℕ). get_or c.args.task.now.fresh.now a 0) (below-is g old b n _ _ _ _ _ _ s h _ c.requires.0)) c.older_below-passing.result c.older_below-passing.ensures _ _ c.in-Some.ensures.skipped (omega (arith, c.in-Some.ensures.skipped.within, c.loop-found.invariant.1.within, c.end_at-end.ensures.upper_bound)) (ends-below g old b n _ _ _ _ _ _ s h _ c.requires.0 _ pl _ _ w.fit.small w.fit.some c.highest-q.ensures _ (c.end_at-end.ensures.by_index _)) c.in-Some.ensures.within (below-small g old b n _ _ _ _ _ _ s h _ c.requires.0 _ pl) _ refl c.if-rest-eq0.true _ _ _ (c.in_err-filled.ensures.finished g old b n w.now w.entered pl ag li whole (word-adds g old b n _ _ _ _ _ _ w.now w.entered c.in-Some.found c.loop-found.union (omega (arith, c.in-Some.ensures.within, c.end_at-end.ensures.upper_bound))) (past-last g old b n _ _ _ _ s _ _ _ _ _ _ _ _ _ _ _ _ _ _ w whole (within g old b n _ _ _ _ _ _ s h _ c.requires.0) _ c.highest-q.ensures _ c.tag_of-tag.ensures _ (rest-is _ _ c.highest-q.ensures) c.args.task.now.fresh.now ag c.fresh_on-new.result (c.fresh_on-new.ensures ∙ ap (λ (a : ℕ). get_or c.args.task.now.fresh.now a 0) (below-is g old b n _ _ _ _ _ _ s h _ c.requires.0)) c.older_below-passing.result c.older_below-passing.ensures _ _ c.in-Some.ensures.skipped (omega (arith, c.in-Some.ensures.skipped.within, c.loop-found.invariant.1.within, c.end_at-end.ensures.upper_bound)) (ends-below g old b n _ _ _ _ _ _ s h _ c.requires.0 _ pl _ _ w.fit.small w.fit.some c.highest-q.ensures _ (c.end_at-end.ensures.by_index _)) c.in-Some.ensures.within (below-small g old b n _ _ _ _ _ _ s h _ c.requires.0 _ pl) _ refl c.if-rest-eq0.true c.still_late-still.result c.still_late-still.ensures))) refl)
 
 pub pass_states-loop-found-smaller-then-rest-eq0 : goal.pass_states-loop-found-smaller-then-rest-eq0
 pass_states-loop-found-smaller-then-rest-eq0 t c = falls-here _ _ _ _ _ c.in-Some.ensures.skipped.after (omega (arith, c.in-Some.ensures.within, c.end_at-end.ensures.upper_bound))

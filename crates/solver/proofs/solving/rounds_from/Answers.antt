@@ -16,7 +16,7 @@ pub loop-sizes-init : goal.loop-sizes-init
 loop-sizes-init c = (omega arith, refl, refl, c.requires.3, λ g n h good st. taken-zero g n _ _ st)
 
 pub returns-then-eq : goal.returns-then-eq
-returns-then-eq c = λ g n h good st. let t = c.loop-sizes.invariant.4 g n h good st in cleared_at (solved_with c.loop-sizes.count c.loop-sizes.i) _ (c.fill.ensures.after (λ y e. e)) (c.copy.auto.to ∙ c.loop-sizes.invariant.2) ∙ turn-settled g n _ _ _ t good _ _ (c.take_wide-next.ensures.filled g (round_table g c.loop-sizes.i) n h good (round-ranged g good c.loop-sizes.i).1 (subst (λ (w : List ℕ). Stored n w c.loop-sizes.count (round_table g c.loop-sizes.i)) (sym c.copy.ensures) t.stored) t.stored (round-past g good n c.loop-sizes.i)) (same-number n _ c.take_wide-next.result (sym c.eq.ensures ∙ c.if-eq.true)) _ _
+returns-then-eq c = λ g n h good st. let t = c.loop-sizes.invariant.4 g n h good st in cleared_at (solved_with c.loop-sizes.count c.loop-sizes.i) _ c.clear.ensures (c.copy.auto.to ∙ c.loop-sizes.invariant.2) ∙ turn-settled g n _ _ _ t good _ _ (c.take_wide-next.ensures.filled g (round_table g c.loop-sizes.i) n h good (round-ranged g good c.loop-sizes.i).1 (subst (λ (w : List ℕ). Stored n w c.loop-sizes.count (round_table g c.loop-sizes.i)) (sym c.copy.ensures) t.stored) t.stored (round-past g good n c.loop-sizes.i)) (same-number n _ c.take_wide-next.result (sym c.eq.ensures ∙ c.if-eq.true)) _ _
 
 pub returns-then-i-ge-MAX_ROUNDS : goal.returns-then-i-ge-MAX_ROUNDS
 returns-then-i-ge-MAX_ROUNDS c = λ g n h good st. let t = c.loop-sizes.invariant.4 g n h good st in (rw c.at.ensures at c.give_up.ensures.work_after) ∙ leaving-at _ (c.take_wide-next.auto.table ∙ c.loop-sizes.invariant.1) (c.copy.auto.to ∙ c.loop-sizes.invariant.2) ∙ sym (turn_last g n _ _ _ t good _ _ (c.take_wide-next.ensures.filled g (round_table g c.loop-sizes.i) n h good (round-ranged g good c.loop-sizes.i).1 (subst (λ (w : List ℕ). Stored n w c.loop-sizes.count (round_table g c.loop-sizes.i)) (sym c.copy.ensures) t.stored) t.stored (round-past g good n c.loop-sizes.i)) (other-number n _ c.take_wide-next.result (omega (arith, t.stored.counted, t.stored.fits)) (sym c.eq.ensures ∙ c.if-eq.false)) c.if-i-ge-MAX_ROUNDS.true _ _)
