@@ -109,7 +109,7 @@ module _ (g : PushdownGame) (old : List Entry) (birthdate n : ℕ) (job : Job) (
       in
       record { filled = rw e w.entered.filled; memoed = rw e w.entered.memoed }
 
-  -- the same where none is told, that is one more than the table can hold
+  -- the same for `None`, which stands for one more than the table can hold
   pub walk-none : (s : Growing) (first reached : ℕ) (lefts unions nexts limits : List ℕ) (depth left u i limit : ℕ) (words : List ℕ) (count : ℕ) (memo : List ℕ)
       → Walking s first reached lefts unions nexts limits depth left u i limit words count memo → count ≡ suc n
       → Finished g old birthdate n (part g old birthdate n job rules work r first reached) s words count memo

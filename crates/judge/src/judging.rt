@@ -31,7 +31,7 @@ pub fn judge_game(game: Game, table: &[u32], position: &[u8]) -> Result<Verdict,
     Ok(verdict_on(sizes, &rules, used_part(table), position[0], &position[1..]))
 }
 
-// A refusal by a question before the verdict, as the judge tells it: the question, and its place.
+// A refusal by a question before the verdict is told as it came, the question at its place.
 fn told(refusal: Refusal) -> Refusal
     ensures { result ≡ refusal }
 {

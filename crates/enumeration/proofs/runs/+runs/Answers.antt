@@ -29,7 +29,7 @@ pass_states-loop-found-smaller-in_default t c = falls-before _ _ _ _ (omega (ari
 pub pass_states-loop-found-preserved-in_default : goal.pass_states-loop-found-preserved-in_default
 pass_states-loop-found-preserved-in_default t c = (c.loop-found.invariant.0, bounded-before _ _ _ _ _ _ _ _ c.loop-found.invariant.1 _ (omega (arith, c.if-depth-eq0.false)), λ g old b n s h pl ag li whole small past. let w = c.loop-found.invariant.2 g old b n s h pl ag li whole small past in walk-back g old b n _ _ _ _ s _ _ _ _ _ _ _ _ _ _ _ _ _ _ w whole (within g old b n _ _ _ _ _ _ s h _ c.requires.0) _ c.highest-q.ensures _ c.tag_of-tag.ensures _ (rest-is _ _ c.highest-q.ensures) c.args.task.now.fresh.now ag c.fresh_on-new.result (c.fresh_on-new.ensures ∙ ap (λ (a : ℕ). get_or c.args.task.now.fresh.now a 0) (below-is g old b n _ _ _ _ _ _ s h _ c.requires.0)) c.older_below-passing.result c.older_below-passing.ensures _ _ c.in_default.ensures.skipped (omega (arith, c.in_default.ensures.skipped.within, c.loop-found.invariant.1.within, c.end_at-end.ensures.upper_bound)) (ends-below g old b n _ _ _ _ _ _ s h _ c.requires.0 _ pl _ _ w.fit.small w.fit.some c.highest-q.ensures _ (c.end_at-end.ensures.by_index _)) (omega arith) _ c.finish.ensures (omega (arith, c.if-depth-eq0.false)))
 
--- None is told: an entry was beyond the table, and nothing of what is left changes it.
+-- `None`: an entry was beyond the table, and nothing of what is left changes it.
 -- Of a number beyond the table `walk-over` says it; the edit `full_table_counts_as_over` has an answer by that in the place of these lines.
 pub pass_states-returns-in_err-filled-clause-finished : goal.pass_states-returns-in_err-filled-clause-finished
 pass_states-returns-in_err-filled-clause-finished t c =

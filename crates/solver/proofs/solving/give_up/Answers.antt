@@ -3,6 +3,7 @@ use Rattle.std.proofs.lemmas.Grind.{common_steps}
 use Rattle.solver.proofs.RoundsTaken.{refused-left}
 use Rattle.solver.proofs.solving.give_up.Goals as goal
 
+-- That the table is zero is left to `grind`, which names a word that is not.
 pub returns : goal.returns
 returns c =
     record {
