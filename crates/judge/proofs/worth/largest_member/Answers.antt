@@ -1,35 +1,7 @@
-use native.Mathlib.Omega.{arith}
-use mathlib.Core.Path.{refl, ◌∙◌}
-use Rattle.judge.specs.Machine.{numbers}
-use Rattle.judge.proofs.Codes.{low-some, tame-numbers}
-use Rattle.judge.proofs.Members.{begin, turn, lost, inside, finish, none-from, of-all}
+use Rattle.judge.proofs.Codes.{tame-numbers}
+use Rattle.judge.proofs.Members.{all-found}
 use Rattle.judge.proofs.worth.largest_member.Goals as goal
 
-pub loop-rest-init : goal.loop-rest-init
-loop-rest-init c = (rw c.members_below-rest.ensures (begin _ _ _), omega arith)
-
-pub larger-requires : goal.larger-requires
-larger-requires c = (c.lowest_member-member.ensures.small, c.loop-rest.invariant.1, c.requires.1)
-
-pub returns-in_err-most-clause-coded : goal.returns-in_err-most-clause-coded
-returns-in_err-most-clause-coded c =
-    let going = c.loop-rest.invariant.0 in
-    let low = c.lowest_member-member.ensures in
-    let there = inside _ _ _ _ _ going _ low (none-from c.args.set c.args.states) in
-    rw c.from_residual.ensures
-    (lost _ _ _ _ _ going _ low (tame-numbers c.args.below.now c.requires.1) c.requires.0 there c.loop-rest.invariant.1 c.in_err-most.ensures.coded
-    ∙ of-all (numbers c.args.below.now) c.args.set c.args.states)
-
-pub loop-rest-preserved : goal.loop-rest-preserved
-loop-rest-preserved c =
-    let going = c.loop-rest.invariant.0 in
-    let low = c.lowest_member-member.ensures in
-    let there = inside _ _ _ _ _ going _ low (none-from c.args.set c.args.states) in
-    (turn _ _ _ _ _ going _ low (omega (arith, c.loop-rest-test.true)) there _ c.in_ok-most.ensures.coded, c.in_ok-most.ensures.low _ refl)
-
-pub returns : goal.returns
-returns c =
-    record {
-      coded = finish _ _ _ _ _ c.loop-rest.invariant.0 c.loop-rest-test.false ∙ of-all (numbers c.args.below.now) c.args.set c.args.states;
-      low = low-some c.loop-rest.invariant.1;
-    }
+pub returns-clause-coded : goal.returns-clause-coded
+returns-clause-coded c =
+    all-found _ _ _ (tame-numbers c.args.below.now c.requires.1) c.requires.0 _ c.largest_below.ensures.found c.largest_below.ensures.beyond

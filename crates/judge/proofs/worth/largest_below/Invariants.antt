@@ -1,7 +1,7 @@
 use Prim.Native.Nat.{◌%◌, ◌^◌, ◌≤◌}
 use Rattle.judge.specs.Machine.{numbers, most_below}
 use Rattle.judge.proofs.Members.{Going}
-use Rattle.judge.proofs.worth.largest_member.Given as goal
+use Rattle.judge.proofs.worth.largest_below.Given as goal
 
 -- The largest worth of the members below `states` that were taken away, and what is left of them above those (`Going`). The measure is
 -- the rest, which falls as a number. Assumes what the contract requires.
