@@ -8,7 +8,7 @@ use Rattle.std.proofs.Math.Option.{Option, none, some}
 use Rattle.game.specs.Limits.{max_rounds, max_stack}
 use Rattle.game.specs.Game.{PushdownGame}
 use Rattle.std.specs.Prelude.{Result, Ok, Err}
-use Rattle.game.specs.Outcome.{done, number}
+use Rattle.game.specs.Outcome.{done, refused, number}
 use Rattle.game.specs.declared.refusal.Refusal.{Refusal}
 use Rattle.game.specs.Numbers.{is_one_of, file_numbers, table_numbers, position_numbers, judge_numbers}
 use Rattle.game.specs.OutcomeLaws.{done-same, after-done, RefusedBy, by-none, by_after, by_front, by-back}
@@ -108,11 +108,20 @@ module _ (file words position : List ℕ) where
   returned-below r e = omega (arith, returned-most r e)
 
   -- and it refuses by 1 to 9, 19, 13 or 14,
-  pub returned-numbers : (refusal : Refusal) → judged (Err refusal) ≡ judging file words position
-      → is_one_of (number refusal.question) judge_numbers ≡ true
-  returned-numbers refusal e = judge-numbers file words position (number refusal.question) refusal.place (sym e)
+  pub returned-numbers : (question place : ℕ) → refused question place ≡ judging file words position
+      → is_one_of question judge_numbers ≡ true
+  returned-numbers question place e = judge-numbers file words position question place (sym e)
 
   -- never by 15.
-  pub no-fifteen : (refusal : Refusal) → judged (Err refusal) ≡ judging file words position → number refusal.question ≡ 15 → ⊥
+  pub no-fifteen : (place : ℕ) → refused 15 place ≡ judging file words position → ⊥
   unfolding any
-  no-fifteen refusal e fifteen = clash (rw fifteen at (returned-numbers refusal e)) refl
+  no-fifteen place e = clash (returned-numbers 15 place e) refl
+
+  -- The same of the refusal that it returns.
+  pub returned-refusal : (refusal : Refusal) → judged (Err refusal) ≡ judging file words position
+      → is_one_of (number refusal.question) judge_numbers ≡ true
+  returned-refusal refusal e = returned-numbers (number refusal.question) refusal.place e
+
+  pub refusal-no-fifteen : (refusal : Refusal) → judged (Err refusal) ≡ judging file words position → number refusal.question ≡ 15 → ⊥
+  unfolding any
+  refusal-no-fifteen refusal e fifteen = clash (rw fifteen at (returned-refusal refusal e)) refl
