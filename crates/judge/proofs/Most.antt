@@ -93,6 +93,16 @@ module _ (file words position : List ℕ) where
       (by-back file_numbers _ _ (by-back table_numbers position_numbers _ (position-numbers g.control g.letters position)))
       (λ v. by-none judge_numbers (verdict_of_bytes g (entries_of words) position))))
 
+  -- It refuses by no other number, at whatever place,
+  pub returned-numbers : (question place : ℕ) → refused question place ≡ judging file words position
+      → is_one_of question judge_numbers ≡ true
+  returned-numbers question place e = judge-numbers question place (sym e)
+
+  -- and so never by 15.
+  pub no-fifteen : (place : ℕ) → refused 15 place ≡ judging file words position → ⊥
+  unfolding any
+  no-fifteen place e = clash (returned-numbers 15 place e) refl
+
 -- Of whatever keeps the promise of `judge`:
 module _ (file words position : List ℕ) where
   -- the bound that it returns is at most 256 × (2^R − 1), and below 2^48,
@@ -107,21 +117,12 @@ module _ (file words position : List ℕ) where
   pub returned-below : (r : Result Answered Refusal) → judged r ≡ judging file words position → returned_bound r < 2 ^ 48
   returned-below r e = omega (arith, returned-most r e)
 
-  -- and it refuses by 1 to 9, 19, 13 or 14,
-  pub returned-numbers : (question place : ℕ) → refused question place ≡ judging file words position
-      → is_one_of question judge_numbers ≡ true
-  returned-numbers question place e = judge-numbers file words position question place (sym e)
-
-  -- never by 15.
-  pub no-fifteen : (place : ℕ) → refused 15 place ≡ judging file words position → ⊥
-  unfolding any
-  no-fifteen place e = clash (returned-numbers 15 place e) refl
-
-  -- The same of the refusal that it returns.
+  -- and the refusal that it returns is by one of 1 to 9, 19, 13 and 14,
   pub returned-refusal : (refusal : Refusal) → judged (Err refusal) ≡ judging file words position
       → is_one_of (number refusal.question) judge_numbers ≡ true
-  returned-refusal refusal e = returned-numbers (number refusal.question) refusal.place e
+  returned-refusal refusal e = returned-numbers file words position (number refusal.question) refusal.place e
 
+  -- so not by 15, which no named question has.
   pub refusal-no-fifteen : (refusal : Refusal) → judged (Err refusal) ≡ judging file words position → number refusal.question ≡ 15 → ⊥
   unfolding any
   refusal-no-fifteen refusal e fifteen = clash (rw fifteen at (returned-refusal refusal e)) refl
